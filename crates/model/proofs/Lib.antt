@@ -1,0 +1,2 @@
+pub mod WholeNumbers
+pub mod Naturals
