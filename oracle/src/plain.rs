@@ -124,6 +124,16 @@ pub fn powf(x: f32, y: f32) -> f32 {
     from_units(sum) * f32::from_bits(((e >> 30) + 127) as u32 * 0x80_0000)
 }
 
+/// The two powers that the source takes.
+pub fn powi(z: f32, n: i32) -> f32 {
+    let square = z * z;
+    match n {
+        3 => square * z,
+        4 => square * square,
+        _ => unreachable!("no rule for this power"),
+    }
+}
+
 fn isqrt(n: u64) -> u64 {
     if n == 0 {
         return 0;

@@ -4,9 +4,6 @@ use oracle::leaf::{by_plain, by_rules, NAMES, POWF};
 use oracle::random::Random;
 use oracle::service;
 
-/// Random inputs to each function.
-const RANDOM: usize = 5_000_000;
-
 /// Where a function's domain or rule changes: their neighbours are tried too.
 const ENDS: [f32; 22] = [
     0.0,
@@ -64,12 +61,12 @@ fn near_use(random: &mut Random) -> Vec<u32> {
     inputs
 }
 
-fn one_argument() -> Vec<u32> {
+fn one_argument(count: u64) -> Vec<u32> {
     let mut random = Random(1);
     let mut inputs: Vec<u32> = near_ends().collect();
     inputs.extend(all_exponents(&mut random));
     inputs.extend(near_use(&mut random));
-    inputs.extend((0..RANDOM).map(|_| random.bits()));
+    inputs.extend((0..count).map(|_| random.bits()));
     inputs
 }
 
@@ -85,14 +82,14 @@ fn random_pair(random: &mut Random) -> (u32, u32) {
     (base, exponent)
 }
 
-fn pairs() -> Vec<(u32, u32)> {
+fn pairs(count: u64) -> Vec<(u32, u32)> {
     let mut random = Random(2);
     let ends: Vec<u32> = ENDS.into_iter().flat_map(|x| [x, -x]).chain([f32::NAN]).map(f32::to_bits).collect();
     let near = |b: u32| [b.wrapping_sub(1), b, b.wrapping_add(1)];
     let ends: Vec<u32> = ends.into_iter().flat_map(near).collect();
     let mut inputs: Vec<(u32, u32)> = ends.iter().flat_map(|a| ends.iter().map(|b| (*a, *b))).collect();
     inputs.extend(all_exponents(&mut random).into_iter().map(|a| (a, 1 + random.bits() % 0x3f80_0000)));
-    inputs.extend((0..RANDOM).map(|_| random_pair(&mut random)));
+    inputs.extend((0..count).map(|_| random_pair(&mut random)));
     inputs
 }
 
@@ -109,8 +106,9 @@ fn compare_one(which: u32, inputs: impl Iterator<Item = (u32, u32)>) -> [Compari
     [proved, plain]
 }
 
-pub fn compare() -> Vec<Comparison> {
-    let (singles, pairs) = (one_argument(), pairs());
+/// This many random inputs to each function, after the chosen ones.
+pub fn compare(count: u64) -> Vec<Comparison> {
+    let (singles, pairs) = (one_argument(count), pairs(count));
     (0..NAMES.len() as u32)
         .flat_map(|which| match which {
             POWF => compare_one(which, pairs.iter().copied()),
