@@ -1,0 +1,85 @@
+//! The curtain: `hf_curtain` against `curtain::gain` of the source.
+use crate::cases::{hex, run};
+use crate::report::Comparison;
+use oracle::expected::{self, SPACE};
+use oracle::random::Random;
+use oracle::{service, stations};
+
+/// The factor that asks for the integral of 16,471 readings.
+const INTEGRATE: f32 = -99_999.0;
+
+struct Case {
+    parm: Vec<f32>,
+    azimuth: f32,
+    elevation: f32,
+    factor: f32,
+}
+
+/// Whole degrees, the ends of the fold, and any other.
+fn azimuth(random: &mut Random) -> f32 {
+    let fold = random.pick(&[90.0f32, -90.0, 270.0, -270.0]).to_bits();
+    match random.below(8) {
+        0 => stations::odd(random),
+        1 | 2 => f32::from_bits(fold - 4 + random.below(9) as u32),
+        3 | 4 => random.below(721) as f32 - 360.0,
+        _ => random.between(-400.0, 400.0),
+    }
+}
+
+fn elevation(random: &mut Random) -> f32 {
+    match random.below(8) {
+        0 => stations::odd(random),
+        1 | 2 => random.below(91) as f32,
+        _ => random.between(-10.0, 100.0),
+    }
+}
+
+/// A factor beside the integral's too; never the integral's own.
+fn factor(random: &mut Random) -> f32 {
+    match random.below(8) {
+        0 => stations::odd(random),
+        1 => random.pick(&[0.0, -0.0, -1.0, 1.0, -99_998.99, -99_999.01, 99_999.0]),
+        _ => random.between(0.0, 20.0),
+    }
+}
+
+fn case(random: &mut Random) -> Case {
+    let realistic = stations::curtain(random);
+    let mut parm = stations::disturbed(random, realistic).to_vec();
+    if random.below(200) == 0 {
+        parm.resize(random.pick(&[0, 1, 19, 21, 40]), 1.0);
+    }
+    Case { parm, azimuth: azimuth(random), elevation: elevation(random), factor: factor(random) }
+}
+
+fn expected_answer(case: &Case) -> Result<f32, u32> {
+    let parm: &[f32; 20] = case.parm[..].try_into().map_err(|_| SPACE)?;
+    expected::curtain_gain(parm, case.azimuth, case.elevation, case.factor)
+}
+
+fn hold(case: &Case, found: &mut Comparison) {
+    let answer = expected_answer(case);
+    found.met(answer.map_or_else(|number| format!("refused {number}"), |_| "level".into()));
+    let expected = answer.map_or_else(|number| 3 << 32 | u64::from(number), |x| x.to_bits().into());
+    let got = service::curtain(&case.parm, case.azimuth, case.elevation, case.factor);
+    let aim = [case.azimuth, case.elevation, case.factor];
+    found.hold(&got, &expected, || format!("{} at {}: {got:X}, expected {expected:X}", hex(&case.parm), hex(&aim)));
+}
+
+fn with_factor(random: &mut Random, found: &mut Comparison) {
+    hold(&case(random), found);
+}
+
+fn with_integral(random: &mut Random, found: &mut Comparison) {
+    let parm = stations::curtain(random).to_vec();
+    hold(&Case { parm, azimuth: azimuth(random), elevation: elevation(random), factor: INTEGRATE }, found);
+}
+
+/// One in a hundred more cases integrate.
+pub fn compare(count: u64) -> Vec<Comparison> {
+    let owed = ["level", "refused 2", "refused 5", "refused 7", "refused 8", "refused 10"];
+    vec![
+        run("hf_curtain", 12, count, with_factor).owing(&owed),
+        run("hf_curtain, integral", 13, count / 100, with_integral).owing(&["level"]),
+    ]
+}

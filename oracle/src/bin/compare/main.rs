@@ -1,0 +1,56 @@
+//! Compares the proved library with the oracle, call by call. The last line counts the comparisons; the status is 0 only where none
+//! failed.
+//! usage: compare [CALL | CALL=CASES ..]     all calls, each with the gate's number of cases
+#[cfg(source)]
+mod cases;
+#[cfg(all(source, feature = "curtain"))]
+mod curtains;
+#[cfg(all(source, feature = "gains"))]
+mod gains;
+mod leaves;
+#[cfg(all(source, feature = "maxgain"))]
+mod maxgain;
+mod report;
+#[cfg(all(source, feature = "row"))]
+mod rows;
+
+use report::Comparison;
+
+/// A call: its name, the gate's number of cases, and its comparisons over a number of cases.
+type Call = (&'static str, u64, fn(u64) -> Vec<Comparison>);
+
+/// Those that `service` exports and whose source is at hand.
+const CALLS: &[Call] = &[
+    ("leaf", 5_000_000, leaves::compare),
+    #[cfg(all(source, feature = "maxgain"))]
+    ("maxgain", 300_000, maxgain::compare),
+    #[cfg(all(source, feature = "curtain"))]
+    ("curtain", 30_000, curtains::compare),
+    #[cfg(all(source, feature = "gains"))]
+    ("gains", 100_000, gains::compare),
+    #[cfg(all(source, feature = "row"))]
+    ("row", 10_000, rows::compare),
+];
+
+/// A word of the command line: a call, with its number of cases or the gate's.
+fn chosen(word: &str) -> (Call, u64) {
+    let (name, cases) = word.split_once('=').map_or((word, None), |(name, cases)| (name, Some(cases)));
+    let call = CALLS.iter().find(|call| call.0 == name).unwrap_or_else(|| panic!("no call is named {name}"));
+    (*call, cases.map_or(call.1, |n| n.parse().expect("a number of cases")))
+}
+
+fn main() {
+    if cfg!(not(source)) {
+        println!(
+            "skipped: the comparisons with the source's Rust, which isn't in ../shared/docs/src; HFCAST_SRC may name its folder"
+        );
+    }
+    let words: Vec<String> = std::env::args().skip(1).collect();
+    let all = || CALLS.iter().map(|call| (*call, call.1)).collect();
+    let runs: Vec<(Call, u64)> = if words.is_empty() { all() } else { words.iter().map(|w| chosen(w)).collect() };
+    let results: Vec<bool> = runs.into_iter().flat_map(|(call, cases)| call.2(cases)).map(|c| c.passed()).collect();
+    let passed = results.iter().filter(|ok| **ok).count();
+    let failed = results.len() - passed;
+    println!("{passed} passed, {failed} failed");
+    std::process::exit(i32::from(failed > 0 || passed == 0));
+}

@@ -1,0 +1,210 @@
+//! What document 01 expects of each call: the source's answer, and before it the refusals, lowest number first.
+use crate::source::antenna::AntennaFile;
+use crate::source::ccir::{antinit2, curtain, setmaxgain, CcirAntenna};
+use crate::source::take_readings;
+
+pub type Refusal = u32;
+pub type Parm = [f32; 20];
+
+/// The floats of a lent table.
+pub const TABLE: usize = 11_284;
+pub const ROW: usize = 360;
+
+const VALUE: Refusal = 2;
+const TYPE: Refusal = 3;
+const MODE: Refusal = 4;
+const BAND: Refusal = 5;
+const COUNT: Refusal = 6;
+const AIM: Refusal = 7;
+pub const SPACE: Refusal = 8;
+const PATTERN: Refusal = 9;
+const LEVEL: Refusal = 10;
+
+fn refuse_if(condition: bool, number: Refusal) -> Result<(), Refusal> {
+    if condition {
+        Err(number)
+    } else {
+        Ok(())
+    }
+}
+
+fn any_not_finite(floats: &[f32]) -> bool {
+    floats.iter().any(|x| !x.is_finite())
+}
+
+fn outside_band(mhz: f32) -> bool {
+    !(1.0..31.0).contains(&mhz)
+}
+
+fn outside(x: f32, low: f32, high: f32) -> bool {
+    !(low <= x && x <= high)
+}
+
+fn file_of(parm: Parm, mode: u32) -> AntennaFile {
+    AntennaFile { parm, modegain: mode as i32, gainmax: [[0.0; 3]; 2], gainmaxb: [0.0; 30] }
+}
+
+/// The type, where it is one of 1..9.
+fn type_of(parm: &Parm) -> Result<i32, Refusal> {
+    let jant = file_of(*parm, 0).jant();
+    refuse_if(!(1..=9).contains(&jant), TYPE)?;
+    Ok(jant)
+}
+
+/// What a station record holds of the maximum gain, and the frequencies.
+#[derive(Clone, Debug)]
+pub struct Gains {
+    pub mode: u32,
+    pub parm: Parm,
+    pub gainmax: [[f32; 3]; 2],
+    pub gainmaxb: [f32; 30],
+    pub mhz: f32,
+    pub design: f32,
+}
+
+impl Gains {
+    /// The 58 floats in their order.
+    pub fn floats(&self) -> Vec<f32> {
+        let rows = self.gainmax.iter().flatten();
+        self.parm.iter().chain(rows).chain(&self.gainmaxb).chain([&self.mhz, &self.design]).copied().collect()
+    }
+}
+
+/// `setmaxgain`: the maximum gain, and the parameters as it leaves them.
+pub fn maxgain(given: &Gains) -> Result<(f32, Parm), Refusal> {
+    refuse_if(any_not_finite(&given.floats()), VALUE)?;
+    type_of(&given.parm)?;
+    refuse_if(given.mode > 2, MODE)?;
+    refuse_if(given.mode == 2 && outside_band(given.mhz), BAND)?;
+    let file = AntennaFile { gainmax: given.gainmax, gainmaxb: given.gainmaxb, ..file_of(given.parm, given.mode) };
+    let mut parm = given.parm;
+    let gain = setmaxgain(&file, &mut parm, given.mhz, given.design).expect("a mode below 3");
+    refuse_if(!gain.is_finite(), LEVEL)?;
+    Ok((gain, parm))
+}
+
+/// `curtain::gain`: a level.
+pub fn curtain_gain(parm: &Parm, azimuth: f32, elevation: f32, factor: f32) -> Result<f32, Refusal> {
+    refuse_if(any_not_finite(parm) || any_not_finite(&[azimuth, elevation, factor]), VALUE)?;
+    refuse_if(outside_band(parm[4]) || outside_band(parm[7]), BAND)?;
+    refuse_if(outside(parm[14], -90.0, 90.0), AIM)?;
+    let gain = curtain::gain(parm, azimuth, elevation, factor);
+    refuse_if(!gain.is_finite(), LEVEL)?;
+    Ok(gain)
+}
+
+/// An accepted set-up.
+pub struct Antenna {
+    record: CcirAntenna,
+    pub count: u32,
+}
+
+impl Antenna {
+    /// The reading count and the bits of the peak.
+    pub fn words(&self) -> [u32; 4] {
+        let r = &self.record;
+        [self.count, r.z6.to_bits(), r.umax.to_bits(), r.vmax.to_bits()]
+    }
+
+    pub fn table(&self) -> Vec<f32> {
+        self.record.table()
+    }
+}
+
+/// The design frequency's slot.
+fn design_slot(jant: i32) -> Option<usize> {
+    match jant {
+        1..=4 => Some(7),
+        8 | 9 => Some(5),
+        _ => None,
+    }
+}
+
+/// The slots of the start elevation and azimuth.
+fn start_slots(jant: i32) -> Option<(usize, usize)> {
+    match jant {
+        1 => Some((13, 14)),
+        2 | 3 => Some((11, 12)),
+        4 | 8 | 9 => Some((10, 11)),
+        _ => None,
+    }
+}
+
+fn count_refused(jant: i32, parm: &Parm) -> bool {
+    match jant {
+        1..=4 => outside(parm[5], 0.0, 64.0) || outside(parm[6], 0.0, 64.0),
+        5 | 6 => !(2..=30).contains(&(parm[5] as i64)),
+        _ => false,
+    }
+}
+
+fn aim_refused(jant: i32, parm: &Parm) -> bool {
+    let slewed = jant <= 4 && outside(parm[9], -90.0, 90.0);
+    let (elevation, azimuth) = start_slots(jant).map_or((0.0, 0.0), |(u, v)| (parm[u], parm[v]));
+    slewed || outside(elevation, 0.0, 90.0) || outside(azimuth, 0.0, 360.0)
+}
+
+/// `antinit2`, into a lent table of `room` floats.
+pub fn set_up(parm: &Parm, room: usize) -> Result<Antenna, Refusal> {
+    refuse_if(any_not_finite(parm), VALUE)?;
+    let jant = type_of(parm)?;
+    refuse_if(outside_band(parm[4]) || design_slot(jant).is_some_and(|slot| outside_band(parm[slot])), BAND)?;
+    refuse_if(count_refused(jant, parm), COUNT)?;
+    refuse_if(aim_refused(jant, parm), AIM)?;
+    refuse_if(room < TABLE, SPACE)?;
+    take_readings();
+    let record = antinit2(&file_of(*parm, 0), parm);
+    let readings = take_readings();
+    let peak_finite = !any_not_finite(&[record.z6, record.umax, record.vmax]);
+    refuse_if(!readings.finite || !peak_finite, PATTERN)?;
+    Ok(Antenna { record, count: readings.count })
+}
+
+/// A gain's case and number.
+#[derive(Clone, Copy, Debug, PartialEq)]
+pub enum Gain {
+    Level(f32),
+    Floor(f32),
+    Silence(f32),
+    Refused(Refusal),
+}
+
+impl Gain {
+    /// The kind's number and the number's bits or the refusal's number, as `hf_gains` writes them.
+    pub fn words(self) -> [u32; 2] {
+        match self {
+            Gain::Level(x) => [0, x.to_bits()],
+            Gain::Floor(x) => [1, x.to_bits()],
+            Gain::Silence(x) => [2, x.to_bits()],
+            Gain::Refused(number) => [3, number],
+        }
+    }
+}
+
+/// `ccirgain`, of an antenna that set-up left: types, counts and space are right.
+pub fn gain(antenna: &Antenna, elevation: f32, azimuth: f32, giso: f32) -> Gain {
+    if any_not_finite(&[elevation, azimuth, giso]) {
+        return Gain::Refused(VALUE);
+    }
+    let x = antenna.record.ccirgain(elevation, azimuth, giso);
+    if !x.is_finite() {
+        Gain::Refused(LEVEL)
+    } else if antenna.record.z6 == 0.0 {
+        Gain::Silence(x)
+    } else if x == -30.0 {
+        Gain::Floor(x)
+    } else {
+        Gain::Level(x)
+    }
+}
+
+/// The plate row at one elevation, into `room` floats: the 360 numbers and front-to-back.
+pub fn row(antenna: &Antenna, elevation: f32, giso: f32, room: usize) -> Result<(Vec<f32>, f32), Refusal> {
+    refuse_if(any_not_finite(&[elevation, giso]), VALUE)?;
+    refuse_if(outside(elevation, 0.0, 90.0) || elevation.fract() != 0.0, AIM)?;
+    refuse_if(room != ROW, SPACE)?;
+    let numbers: Vec<f32> = (0..ROW).map(|v| antenna.record.ccirgain(elevation, v as f32, giso)).collect();
+    let front_to_back = numbers[0] - numbers[180];
+    refuse_if(any_not_finite(&numbers) || !front_to_back.is_finite(), LEVEL)?;
+    Ok((numbers, front_to_back))
+}

@@ -1,0 +1,12 @@
+//! The judge of the Rattle: document 01's rules written apart from it, the source's Rust over those rules, and the proved library
+//! behind safe wrappers.
+#[cfg(source)]
+pub mod expected;
+pub mod leaf;
+pub mod plain;
+pub mod random;
+pub mod rules;
+pub mod service;
+#[cfg(source)]
+pub mod source;
+pub mod stations;

@@ -1,0 +1,68 @@
+//! The proved library's calls. Nothing checks these declarations against the Rattle: keep both side by side in a review.
+//! A slice is a pointer, then a length. A call that `service` doesn't export yet waits behind its feature.
+
+mod raw {
+    extern "C" {
+        pub fn hf_leaf(which: u32, a: u32, b: u32) -> u32;
+        #[cfg(feature = "maxgain")]
+        pub fn hf_maxgain(mode: u32, floats: *const f32, floats_len: usize, out: *mut u32, out_len: usize) -> u32;
+        #[cfg(feature = "curtain")]
+        pub fn hf_curtain(parm: *const f32, parm_len: usize, azimuth: f32, elevation: f32, factor: f32) -> u64;
+        #[cfg(feature = "gains")]
+        pub fn hf_gains(
+            parm: *const f32,
+            parm_len: usize,
+            giso: f32,
+            directions: *const f32,
+            directions_len: usize,
+            out: *mut u32,
+            out_len: usize,
+        ) -> u32;
+        #[cfg(feature = "row")]
+        pub fn hf_row(
+            parm: *const f32,
+            parm_len: usize,
+            table: *mut f32,
+            table_len: usize,
+            giso: f32,
+            elevation: f32,
+            row: *mut f32,
+            row_len: usize,
+            out: *mut u32,
+            out_len: usize,
+        ) -> u32;
+    }
+}
+
+pub fn leaf(which: u32, a: u32, b: u32) -> u32 {
+    // SAFETY: numbers alone.
+    unsafe { raw::hf_leaf(which, a, b) }
+}
+
+#[cfg(feature = "maxgain")]
+pub fn maxgain(mode: u32, floats: &[f32], out: &mut [u32]) -> u32 {
+    // SAFETY: the pointers and lengths are those of live slices, and one borrowed mutably overlaps no other; so in all calls below.
+    unsafe { raw::hf_maxgain(mode, floats.as_ptr(), floats.len(), out.as_mut_ptr(), out.len()) }
+}
+
+#[cfg(feature = "curtain")]
+pub fn curtain(parm: &[f32], azimuth: f32, elevation: f32, factor: f32) -> u64 {
+    // SAFETY: as above.
+    unsafe { raw::hf_curtain(parm.as_ptr(), parm.len(), azimuth, elevation, factor) }
+}
+
+#[cfg(feature = "gains")]
+pub fn gains(parm: &[f32], giso: f32, directions: &[f32], out: &mut [u32]) -> u32 {
+    let (out_len, out) = (out.len(), out.as_mut_ptr());
+    // SAFETY: as above.
+    unsafe { raw::hf_gains(parm.as_ptr(), parm.len(), giso, directions.as_ptr(), directions.len(), out, out_len) }
+}
+
+#[cfg(feature = "row")]
+pub fn row(parm: &[f32], table: &mut [f32], giso: f32, elevation: f32, row: &mut [f32], out: &mut [u32]) -> u32 {
+    let (table_len, table) = (table.len(), table.as_mut_ptr());
+    let (row_len, row) = (row.len(), row.as_mut_ptr());
+    let (out_len, out) = (out.len(), out.as_mut_ptr());
+    // SAFETY: as above.
+    unsafe { raw::hf_row(parm.as_ptr(), parm.len(), table, table_len, giso, elevation, row, row_len, out, out_len) }
+}
