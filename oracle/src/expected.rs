@@ -72,7 +72,8 @@ impl Gains {
 
 /// `setmaxgain`: the maximum gain, and the parameters as it leaves them.
 pub fn maxgain(given: &Gains) -> Result<(f32, Parm), Refusal> {
-    refuse_if(any_not_finite(&given.floats()), VALUE)?;
+    let Gains { parm, gainmax, gainmaxb, mhz, design, .. } = given;
+    refuse_if([&parm[..], &gainmax[0], &gainmax[1], gainmaxb, &[*mhz, *design]].into_iter().any(any_not_finite), VALUE)?;
     type_of(&given.parm)?;
     refuse_if(given.mode > 2, MODE)?;
     refuse_if(given.mode == 2 && outside_band(given.mhz), BAND)?;
@@ -106,8 +107,9 @@ impl Antenna {
         [self.count, r.z6.to_bits(), r.umax.to_bits(), r.vmax.to_bits()]
     }
 
-    pub fn table(&self) -> Vec<f32> {
-        self.record.table()
+    /// Writes the first 11,284 floats of a lent table.
+    pub fn copy_table(&self, table: &mut [f32]) {
+        self.record.copy_table(table);
     }
 }
 
@@ -199,11 +201,11 @@ pub fn gain(antenna: &Antenna, elevation: f32, azimuth: f32, giso: f32) -> Gain 
 }
 
 /// The plate row at one elevation, into `room` floats: the 360 numbers and front-to-back.
-pub fn row(antenna: &Antenna, elevation: f32, giso: f32, room: usize) -> Result<(Vec<f32>, f32), Refusal> {
+pub fn row(antenna: &Antenna, elevation: f32, giso: f32, room: usize) -> Result<([f32; ROW], f32), Refusal> {
     refuse_if(any_not_finite(&[elevation, giso]), VALUE)?;
     refuse_if(outside(elevation, 0.0, 90.0) || elevation.fract() != 0.0, AIM)?;
     refuse_if(room != ROW, SPACE)?;
-    let numbers: Vec<f32> = (0..ROW).map(|v| antenna.record.ccirgain(elevation, v as f32, giso)).collect();
+    let numbers: [f32; ROW] = std::array::from_fn(|v| antenna.record.ccirgain(elevation, v as f32, giso));
     let front_to_back = numbers[0] - numbers[180];
     refuse_if(any_not_finite(&numbers) || !front_to_back.is_finite(), LEVEL)?;
     Ok((numbers, front_to_back))

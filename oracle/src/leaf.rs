@@ -28,7 +28,8 @@ macro_rules! leaf {
                 3 => $log10(x),
                 POWF => $powf(x, y),
                 5 => $atan(x),
-                _ => $sqrt(x),
+                6 => $sqrt(x),
+                _ => f32::NAN,
             })
         }
     };

@@ -5,6 +5,8 @@ pub mod expected;
 pub mod leaf;
 pub mod plain;
 pub mod random;
+#[cfg(source)]
+pub mod reference;
 pub mod rules;
 pub mod service;
 #[cfg(source)]

@@ -87,8 +87,11 @@ pub mod ccir {
 
     impl CcirAntenna {
         /// `ww1` to `ww4` in turn, each by elevation, then element: the lent table.
-        pub fn table(&self) -> Vec<R> {
-            [&self.ww1, &self.ww2, &self.ww3, &self.ww4].into_iter().flatten().flatten().copied().collect()
+        pub fn copy_table(&self, table: &mut [R]) {
+            let rows = [&self.ww1, &self.ww2, &self.ww3, &self.ww4].into_iter().flatten();
+            for (lent, row) in table.chunks_mut(31).zip(rows) {
+                lent.copy_from_slice(row);
+            }
         }
     }
 }

@@ -164,3 +164,12 @@ pub fn station(random: &mut Random) -> Parm {
     }
     disturbed(random, parm)
 }
+
+/// A maximum gain; at times one that lifts or sinks every level, or is none.
+pub fn giso(random: &mut Random) -> f32 {
+    match random.below(8) {
+        0 => odd(random),
+        1 => random.pick(&[0.0, -0.0, -30.0, 30.0, -10.0]),
+        _ => random.between(-25.0, 30.0),
+    }
+}

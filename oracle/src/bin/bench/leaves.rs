@@ -5,16 +5,14 @@ use oracle::random::Random;
 use oracle::service;
 use std::hint::black_box;
 
+/// A round calls with the next few of many inputs, so that no branch is learnt by heart.
 const INPUTS: usize = 1 << 16;
-const TIMES: usize = 4;
+const CALLS: usize = 1 << 12;
+const ROUNDS: usize = 480;
 
-fn call_all(inputs: &[u32], leaf: impl Fn(u32) -> u32) {
-    let mut mixed = 0;
-    for _ in 0..TIMES {
-        for a in inputs {
-            mixed ^= leaf(black_box(*a));
-        }
-    }
+fn call_all(inputs: &[u32], round: usize, leaf: impl Fn(u32) -> u32) {
+    let start = round * CALLS % INPUTS;
+    let mixed = inputs[start..start + CALLS].iter().fold(0, |mixed, a| mixed ^ leaf(black_box(*a)));
     black_box(mixed);
 }
 
@@ -33,10 +31,13 @@ fn row(which: u32) {
     let xs = inputs(which);
     let y = black_box(0.3f32.to_bits());
     let [rattle, plain, std] = least(
-        INPUTS * TIMES,
-        [&mut || call_all(&xs, |a| service::leaf(which, a, y)), &mut || call_all(&xs, |a| by_plain(which, a, y)), &mut || {
-            call_all(&xs, |a| by_std(which, a, y))
-        }],
+        ROUNDS,
+        CALLS,
+        [
+            &mut |round| call_all(&xs, round, |a| service::leaf(which, a, y)),
+            &mut |round| call_all(&xs, round, |a| by_plain(which, a, y)),
+            &mut |round| call_all(&xs, round, |a| by_std(which, a, y)),
+        ],
     );
     let name = NAMES[which as usize];
     println!("| {name:5} | {rattle:6.1} | {plain:6.1} | {:5.2} | {std:6.1} | {:5.1} |", rattle / plain, rattle / std);

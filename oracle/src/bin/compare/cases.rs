@@ -33,6 +33,17 @@ pub fn run(name: &str, seed: u64, count: u64, one: impl Fn(&mut Random, &mut Com
     found
 }
 
+/// What stays in a lent word where nothing is written; as a float it is finite.
+pub const LEFT: u32 = 0xA5A5_A5A5;
+
+/// The first place where two lists differ.
+pub fn first_difference(got: &[u32], expected: &[u32]) -> String {
+    match got.iter().zip(expected).position(|(a, b)| a != b) {
+        None => "no word differs".into(),
+        Some(k) => format!("word {k} is {:08X}, expected {:08X}", got[k], expected[k]),
+    }
+}
+
 /// Bits in a row, for a report.
 pub fn hex(floats: &[f32]) -> String {
     floats.iter().map(|x| format!("{:08X}", x.to_bits())).collect::<Vec<_>>().join(" ")

@@ -1,9 +1,8 @@
 //! The curtain: `hf_curtain` against `curtain::gain` of the source.
 use crate::cases::{hex, run};
 use crate::report::Comparison;
-use oracle::expected::{self, SPACE};
 use oracle::random::Random;
-use oracle::{service, stations};
+use oracle::{reference, service, stations};
 
 /// The factor that asks for the integral of 16,471 readings.
 const INTEGRATE: f32 = -99_999.0;
@@ -52,18 +51,13 @@ fn case(random: &mut Random) -> Case {
     Case { parm, azimuth: azimuth(random), elevation: elevation(random), factor: factor(random) }
 }
 
-fn expected_answer(case: &Case) -> Result<f32, u32> {
-    let parm: &[f32; 20] = case.parm[..].try_into().map_err(|_| SPACE)?;
-    expected::curtain_gain(parm, case.azimuth, case.elevation, case.factor)
-}
-
 fn hold(case: &Case, found: &mut Comparison) {
-    let answer = expected_answer(case);
-    found.met(answer.map_or_else(|number| format!("refused {number}"), |_| "level".into()));
-    let expected = answer.map_or_else(|number| 3 << 32 | u64::from(number), |x| x.to_bits().into());
-    let got = service::curtain(&case.parm, case.azimuth, case.elevation, case.factor);
-    let aim = [case.azimuth, case.elevation, case.factor];
-    found.hold(&got, &expected, || format!("{} at {}: {got:X}, expected {expected:X}", hex(&case.parm), hex(&aim)));
+    let Case { parm, azimuth, elevation, factor } = case;
+    let got = service::curtain(parm, *azimuth, *elevation, *factor);
+    let expected = reference::curtain(parm, *azimuth, *elevation, *factor);
+    found.met(if expected >> 32 == 0 { "level".into() } else { format!("refused {}", expected as u32) });
+    let aim = [*azimuth, *elevation, *factor];
+    found.hold(&got, &expected, || format!("{} at {}: {got:X}, expected {expected:X}", hex(parm), hex(&aim)));
 }
 
 fn with_factor(random: &mut Random, found: &mut Comparison) {

@@ -1,10 +1,14 @@
 //! Compares the proved library with the oracle, call by call. The last line counts the comparisons; the status is 0 only where none
 //! failed.
 //! usage: compare [CALL | CALL=CASES ..]     all calls, each with the gate's number of cases
+#![cfg_attr(not(all(source, feature = "maxgain")), allow(dead_code))]
+#[cfg(source)]
+mod antenna_edges;
 #[cfg(source)]
 mod cases;
 #[cfg(all(source, feature = "curtain"))]
 mod curtains;
+mod edges;
 #[cfg(all(source, feature = "gains"))]
 mod gains;
 mod leaves;
@@ -21,6 +25,9 @@ type Call = (&'static str, u64, fn(u64) -> Vec<Comparison>);
 
 /// Those that `service` exports and whose source is at hand.
 const CALLS: &[Call] = &[
+    ("edges", 1, edges::compare),
+    #[cfg(source)]
+    ("antenna_edges", 1, antenna_edges::compare),
     ("leaf", 5_000_000, leaves::compare),
     #[cfg(all(source, feature = "maxgain"))]
     ("maxgain", 300_000, maxgain::compare),

@@ -1,12 +1,9 @@
 //! The maximum gain: `hf_maxgain` against `setmaxgain` of the source.
-use crate::cases::{hex, run};
+use crate::cases::{first_difference, hex, run, LEFT};
 use crate::report::Comparison;
-use oracle::expected::{self, Gains};
+use oracle::expected::Gains;
 use oracle::random::Random;
-use oracle::{service, stations};
-
-/// What a refusal must leave alone.
-const LEFT: u32 = 0xA5A5_A5A5;
+use oracle::{reference, service, stations};
 
 /// A mode of the three, mostly; the curtain's, and numbers that are none.
 fn mode(random: &mut Random) -> u32 {
@@ -55,30 +52,30 @@ fn given(random: &mut Random) -> Gains {
     Gains { mode, parm, gainmax, gainmaxb, mhz, design: design(random, mhz) }
 }
 
-fn expected_words(given: &Gains) -> (u32, [u32; 21]) {
-    let mut out = [LEFT; 21];
-    match expected::maxgain(given) {
-        Err(number) => (number, out),
-        Ok((gain, parm)) => {
-            out[0] = gain.to_bits();
-            out[1..].copy_from_slice(&parm.map(f32::to_bits));
-            (0, out)
-        }
+/// The floats in their order; now and then one too many or too few, and so with the words.
+fn lengths(random: &mut Random) -> (usize, usize) {
+    match random.below(400) {
+        0 => (random.pick(&[0, 20, 57, 59]), 21),
+        1 => (58, random.pick(&[0, 1, 20, 22])),
+        _ => (58, 21),
     }
 }
 
 fn one(random: &mut Random, found: &mut Comparison) {
-    let given = given(random);
-    let expected = expected_words(&given);
-    let mut out = [LEFT; 21];
-    let got = (service::maxgain(given.mode, &given.floats(), &mut out), out);
-    found.met(if expected.0 == 0 { format!("mode {}", given.mode) } else { format!("refused {}", expected.0) });
-    found.hold(&got, &expected, || {
-        format!("mode {} floats {}: {got:X?}, expected {expected:X?}", given.mode, hex(&given.floats()))
+    let (given, (floats_len, words)) = (given(random), lengths(random));
+    let (mode, mut floats) = (given.mode, given.floats());
+    floats.resize(floats_len, 1.0);
+    let (mut out, mut expected_out) = (vec![LEFT; words], vec![LEFT; words]);
+    let got = service::maxgain(mode, &floats, &mut out);
+    let expected = reference::maxgain(mode, &floats, &mut expected_out);
+    found.met(if expected == 0 { format!("mode {mode}") } else { format!("refused {expected}") });
+    found.hold(&(got, &out), &(expected, &expected_out), || {
+        let words = first_difference(&out, &expected_out);
+        format!("mode {mode} floats {}: {got}, expected {expected}; {words}", hex(&floats))
     });
 }
 
 pub fn compare(count: u64) -> Vec<Comparison> {
-    let owed = ["mode 0", "mode 1", "mode 2", "refused 2", "refused 3", "refused 4", "refused 5", "refused 10"];
+    let owed = ["mode 0", "mode 1", "mode 2", "refused 2", "refused 3", "refused 4", "refused 5", "refused 8", "refused 10"];
     vec![run("hf_maxgain", 11, count, one).owing(&owed)]
 }

@@ -56,7 +56,7 @@ impl Comparison {
         let missing: Vec<&String> = self.owed.iter().filter(|a| !self.answers.contains_key(*a)).collect();
         let passed = self.inputs > 0 && self.differences == 0 && missing.is_empty();
         let word = if passed { "ok  " } else { "FAIL" };
-        println!("{word} {:24} {:>10} inputs, {} differences", self.name, self.inputs, self.differences);
+        println!("{word} {:34} {:>10} inputs, {} differences", self.name, self.inputs, self.differences);
         if !self.answers.is_empty() {
             let met: Vec<String> = self.answers.iter().map(|(answer, times)| format!("{answer}: {times}")).collect();
             println!("       {}", met.join(", "));

@@ -1,13 +1,9 @@
 //! Set-up into a lent table, then a row: `hf_row` against the source's 360 gains. Every lent float is compared, written or left.
-use crate::cases::{hex, run};
-use crate::gains::{first_difference, giso};
+use crate::cases::{first_difference, hex, run, LEFT};
 use crate::report::Comparison;
-use oracle::expected::{self, ROW, SPACE, TABLE};
+use oracle::expected::{ROW, TABLE};
 use oracle::random::Random;
-use oracle::{service, stations};
-
-/// What stays where nothing is written.
-const LEFT: u32 = 0xA5A5_A5A5;
+use oracle::{reference, service, stations};
 
 struct Case {
     parm: Vec<f32>,
@@ -16,14 +12,6 @@ struct Case {
     table: usize,
     row: usize,
     words: usize,
-}
-
-/// The call's answer and all lent words: out, row, table.
-struct Answer {
-    code: u32,
-    out: Vec<u32>,
-    row: Vec<u32>,
-    table: Vec<u32>,
 }
 
 fn elevation(random: &mut Random) -> f32 {
@@ -44,50 +32,26 @@ fn case(random: &mut Random) -> Case {
         7 => words = random.pick(&[0, 4, 6]),
         _ => {}
     }
-    Case { parm, giso: giso(random), elevation: elevation(random), table, row, words }
+    Case { parm, giso: stations::giso(random), elevation: elevation(random), table, row, words }
 }
 
-fn untouched(case: &Case) -> Answer {
-    Answer { code: 0, out: vec![LEFT; case.words], row: vec![LEFT; case.row], table: vec![LEFT; case.table] }
-}
-
-fn bits(floats: &[f32]) -> Vec<u32> {
-    floats.iter().map(|x| x.to_bits()).collect()
-}
+/// `hf_row` or the reference.
+type Call = fn(&[f32], &mut [f32], f32, f32, &mut [f32], &mut [u32]) -> u32;
 
 /// A NaN among the table's floats has no fixed bits.
-fn settled(floats: &[f32]) -> Vec<u32> {
-    floats.iter().map(|x| if x.is_nan() { 0x7fc0_0000 } else { x.to_bits() }).collect()
+fn bits(floats: &[f32]) -> impl Iterator<Item = u32> + '_ {
+    floats.iter().map(|x| if x.is_nan() { 0x7fc0_0000 } else { x.to_bits() })
 }
 
-fn expected_answer(case: &Case) -> Answer {
-    let left = untouched(case);
-    let Ok(parm) = <&[f32; 20]>::try_from(&case.parm[..]) else { return Answer { code: SPACE, ..left } };
-    if case.words != 5 {
-        return Answer { code: SPACE, ..left };
-    }
-    let antenna = match expected::set_up(parm, case.table) {
-        Ok(antenna) => antenna,
-        Err(number) => return Answer { code: number, ..left },
-    };
-    let mut answer = left;
-    answer.out[..4].copy_from_slice(&antenna.words());
-    answer.table[..TABLE].copy_from_slice(&settled(&antenna.table()));
-    match expected::row(&antenna, case.elevation, case.giso, case.row) {
-        Err(number) => answer.code = 256 + number,
-        Ok((numbers, front_to_back)) => {
-            answer.row = bits(&numbers);
-            answer.out[4] = front_to_back.to_bits();
-        }
-    }
-    answer
-}
-
-fn given_answer(case: &Case) -> Answer {
+/// The answer, then all lent words: out, row, table.
+fn words_of(case: &Case, call: Call) -> Vec<u32> {
     let left = f32::from_bits(LEFT);
-    let (mut out, mut row, mut table) = (vec![LEFT; case.words], vec![left; case.row], vec![left; case.table]);
-    let code = service::row(&case.parm, &mut table, case.giso, case.elevation, &mut row, &mut out);
-    Answer { code, out, row: bits(&row), table: settled(&table) }
+    let (mut table, mut row, mut out) = (vec![left; case.table], vec![left; case.row], vec![LEFT; case.words]);
+    let mut words = vec![call(&case.parm, &mut table, case.giso, case.elevation, &mut row, &mut out)];
+    words.extend(out);
+    words.extend(bits(&row));
+    words.extend(bits(&table));
+    words
 }
 
 fn name(code: u32) -> String {
@@ -100,10 +64,8 @@ fn name(code: u32) -> String {
 
 fn one(random: &mut Random, found: &mut Comparison) {
     let case = case(random);
-    let (expected, got) = (expected_answer(&case), given_answer(&case));
-    found.met(name(expected.code));
-    let words = |a: &Answer| [&[a.code][..], &a.out, &a.row, &a.table].concat();
-    let (got, expected) = (words(&got), words(&expected));
+    let (got, expected) = (words_of(&case, service::row), words_of(&case, reference::row));
+    found.met(name(expected[0]));
     found.hold(&got, &expected, || {
         let (parm, at) = (hex(&case.parm), hex(&[case.giso, case.elevation]));
         format!("{parm} giso and elevation {at}: {}", first_difference(&got, &expected))

@@ -1,0 +1,90 @@
+//! The antennas' calls beside the source's Rust over the same rules, refusals included on both sides.
+use crate::clock::least;
+use std::hint::black_box;
+
+use oracle::random::Random;
+use oracle::{expected, reference, service, stations};
+
+const STATIONS: usize = 16;
+
+fn row(name: &str, [rattle, rust]: [f64; 2]) {
+    println!("| {name:22} | {:9.2} | {:9.2} | {:5.2} |", rattle / 1000.0, rust / 1000.0, rattle / rust);
+}
+
+#[cfg(feature = "maxgain")]
+fn maxgain(mode: u32) {
+    let mut random = Random(21);
+    let mut floats = || {
+        let (parm, mhz) = (stations::realistic(&mut random, 2), random.between(2.0, 30.0));
+        let (gainmax, gainmaxb) = ([[10.0, 12.0, 11.0], [13.0, 15.0, 14.0]], [11.0; 30]);
+        expected::Gains { mode, parm, gainmax, gainmaxb, mhz, design: 1.1 }.floats()
+    };
+    let stations: Vec<Vec<f32>> = (0..STATIONS).map(|_| floats()).collect();
+    let call = |maxgain: fn(u32, &[f32], &mut [u32]) -> u32| {
+        let mut out = [0; 21];
+        stations.iter().for_each(|f| assert!(black_box(maxgain)(mode, f, &mut out) == 0));
+    };
+    row(
+        &format!("maximum gain, mode {mode}"),
+        least(2000, STATIONS, [&mut |_| call(service::maxgain), &mut |_| call(reference::maxgain)]),
+    );
+}
+
+#[cfg(feature = "curtain")]
+fn curtain(name: &str, factor: f32, rounds: usize, calls: usize) {
+    let mut random = Random(22);
+    let curtains: Vec<_> = (0..calls).map(|_| stations::curtain(&mut random)).collect();
+    let call = |curtain: fn(&[f32], f32, f32, f32) -> u64| {
+        curtains.iter().for_each(|parm| assert!(black_box(curtain)(parm, 10.0, 20.0, factor) >> 32 == 0));
+    };
+    row(name, least(rounds, calls, [&mut |_| call(service::curtain), &mut |_| call(reference::curtain)]));
+}
+
+/// `hf_row` or the reference.
+#[cfg(feature = "row")]
+type Row = fn(&[f32], &mut [f32], f32, f32, &mut [f32], &mut [u32]) -> u32;
+
+/// A realistic station with a row.
+#[cfg(feature = "row")]
+fn accepted(random: &mut Random, jant: u32) -> [f32; 20] {
+    loop {
+        let parm = stations::realistic(random, jant);
+        let (mut table, mut row, mut out) = ([0.0; expected::TABLE], [0.0; expected::ROW], [0; 5]);
+        if reference::row(&parm, &mut table, 10.0, 20.0, &mut row, &mut out) == 0 {
+            return parm;
+        }
+    }
+}
+
+/// One call, into buffers of its own.
+#[cfg(feature = "row")]
+fn timed(call: Row, parm: [f32; 20]) -> impl FnMut(usize) {
+    let (mut table, mut row, mut out) = ([0.0; expected::TABLE], [0.0; expected::ROW], [0; 5]);
+    move |_| assert!(black_box(call)(&parm, &mut table, 10.0, 20.0, &mut row, &mut out) == 0)
+}
+
+/// Each station by itself, since a round must be short to meet the machine idle; then the mean.
+#[cfg(feature = "row")]
+fn set_up_and_row(jant: u32) {
+    let mut random = Random(23);
+    let mut mean = [0.0; 2];
+    for _ in 0..STATIONS {
+        let parm = accepted(&mut random, jant);
+        let times = least(60, 1, [&mut timed(service::row, parm), &mut timed(reference::row, parm)]);
+        mean.iter_mut().zip(times).for_each(|(mean, time)| *mean += time / STATIONS as f64);
+    }
+    row(&format!("set-up and row, type {jant}"), mean);
+}
+
+pub fn run() {
+    println!("\n| call | Rattle µs | Rust µs | ratio |\n|---|---|---|---|");
+    #[cfg(feature = "maxgain")]
+    (0..3).for_each(maxgain);
+    #[cfg(feature = "curtain")]
+    {
+        curtain("curtain, factor", 1.5, 2000, STATIONS);
+        curtain("curtain, integral", -99_999.0, 20, 4);
+    }
+    #[cfg(feature = "row")]
+    (1..=9).for_each(set_up_and_row);
+}

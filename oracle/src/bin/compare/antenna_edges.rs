@@ -1,0 +1,93 @@
+//! The antennas' edges that document 01 states: its own numbers, held against the oracle and against the proved library.
+use crate::report::Comparison;
+use oracle::expected::{Gains, ROW, TABLE};
+use oracle::reference;
+#[cfg(any(feature = "maxgain", feature = "curtain", feature = "row"))]
+use oracle::service;
+
+type Maxgain = fn(u32, &[f32], &mut [u32]) -> u32;
+type Curtain = fn(&[f32], f32, f32, f32) -> u64;
+type Row = fn(&[f32], &mut [f32], f32, f32, &mut [f32], &mut [u32]) -> u32;
+
+const MINUS_30: u32 = 0xc1f0_0000;
+
+fn parm(slots: &[(usize, f32)]) -> [f32; 20] {
+    let mut parm = [0.0; 20];
+    slots.iter().for_each(|(slot, x)| parm[*slot] = *x);
+    parm
+}
+
+/// Mode 1 at 31 MHz with design 1 gives 10 and 10; mode 2 at 30 takes the last two entries; at 31 it is 5.
+fn maxgain(name: &str, maxgain: Maxgain) -> Comparison {
+    let mut found = Comparison::new(format!("edges of setmaxgain, {name}"));
+    let gainmaxb = std::array::from_fn(|k| k as f32 * 0.3);
+    let answer = |mode, mhz| {
+        let mut out = [0; 21];
+        let given = Gains { mode, parm: parm(&[(1, 5.0)]), gainmax: [[0.0; 3]; 2], gainmaxb, mhz, design: 1.0 };
+        (maxgain(mode, &given.floats(), &mut out), out[0], out[5], out[8])
+    };
+    let ten = 10f32.to_bits();
+    let last = gainmaxb[28] + (gainmaxb[29] - gainmaxb[28]);
+    let edges = [
+        (answer(1, 31.0), (0, 0, ten, ten)),
+        (answer(2, 30.0), (0, last.to_bits(), 30f32.to_bits(), 0)),
+        (answer(2, 31.0), (5, 0, 0, 0)),
+        (answer(3, 10.0), (4, 0, 0, 0)),
+    ];
+    for (got, expected) in edges {
+        found.hold(&got, &expected, || format!("{got:X?}, expected {expected:X?}"));
+    }
+    found
+}
+
+/// The curtain of nothing but its two frequencies, ahead and behind; a factor of 0 with a pattern that isn't 0.
+fn curtain(name: &str, curtain: Curtain) -> Comparison {
+    let mut found = Comparison::new(format!("edges of the curtain, {name}"));
+    let blank = parm(&[(4, 10.0), (7, 10.0)]);
+    let shaped =
+        parm(&[(4, 10.0), (5, 2.0), (6, 2.0), (7, 10.0), (8, 15.0), (9, 10.0), (10, 15.0), (11, 15.0), (12, 7.0), (13, 4.0)]);
+    let edges = [
+        (curtain(&blank, 0.0, 0.0, 1.0), (-1000f32).to_bits().into()),
+        (curtain(&blank, 180.0, 0.0, 1.0), (-1020f32).to_bits().into()),
+        (curtain(&shaped, 10.0, 20.0, 0.0), 3 << 32 | 10),
+    ];
+    for (got, expected) in edges {
+        found.hold(&got, &expected, || format!("{got:X}, expected {expected:X}"));
+    }
+    found
+}
+
+/// Case P is silent throughout, its table +0, its row -30; a type 1 with slot 11 at 0 is refused as 9.
+fn row(name: &str, row: Row) -> Comparison {
+    let mut found = Comparison::new(format!("edges of set-up and row, {name}"));
+    let mut p = parm(&[(1, 5.0), (2, 4.0), (3, 0.001), (4, 10.0), (5, 2.0), (6, 40.0), (7, 80.0)]);
+    p[8..11].fill(10.0);
+    let unreflected =
+        parm(&[(1, 1.0), (2, 4.0), (3, 0.001), (4, 10.0), (5, 2.0), (6, 2.0), (7, 10.0), (8, 0.5), (10, 0.3), (12, 2.0)]);
+    let answer = |parm: &[f32; 20]| {
+        let (mut table, mut numbers, mut out) = ([1.0; TABLE], [1.0; ROW], [1; 5]);
+        let code = row(parm, &mut table, 10.0, 5.0, &mut numbers, &mut out);
+        (code, out, numbers.map(f32::to_bits), table.iter().all(|x| x.to_bits() == 0))
+    };
+    let silent = (0, [90, 0, 90f32.to_bits(), 0, 0], [MINUS_30; ROW], true);
+    let refused = (9, [1; 5], [1f32.to_bits(); ROW], false);
+    for (parm, expected) in [(p, silent), (unreflected, refused)] {
+        let got = answer(&parm);
+        found.hold(&got, &expected, || format!("{:?}, expected {:?}", (got.0, got.1), (expected.0, expected.1)));
+    }
+    found
+}
+
+pub fn compare(_: u64) -> Vec<Comparison> {
+    vec![
+        maxgain("oracle", reference::maxgain),
+        curtain("oracle", reference::curtain),
+        row("oracle", reference::row),
+        #[cfg(feature = "maxgain")]
+        maxgain("hf_maxgain", service::maxgain),
+        #[cfg(feature = "curtain")]
+        curtain("hf_curtain", service::curtain),
+        #[cfg(feature = "row")]
+        row("hf_row", service::row),
+    ]
+}

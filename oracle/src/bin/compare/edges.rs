@@ -1,0 +1,40 @@
+//! The elementary functions' edges that document 01 states: its own numbers, held against the oracle and against the proved library.
+use crate::report::Comparison;
+use oracle::leaf::{by_rules, Leaf};
+use oracle::service;
+
+const NAN: u32 = 0x7fc0_0000;
+
+/// Function, argument, answer, all but the arguments as bits. Numbers from 7 on name no function.
+const LEAVES: [(u32, f32, u32); 14] = [
+    (1, 0.0, 0x3f80_0000),
+    (0, -0.0, 0x8000_0000),
+    (0, 0.0, 0),
+    (0, 65_536.01, NAN),
+    (1, -65_536.01, NAN),
+    (0, f32::INFINITY, NAN),
+    (3, 1.0, 0),
+    (2, 1.0, 0),
+    (3, f32::INFINITY, NAN),
+    (6, 4.0, 0x4000_0000),
+    (6, -0.0, 0x8000_0000),
+    (6, -1.0, NAN),
+    (7, 1.0, NAN),
+    (u32::MAX, 1.0, NAN),
+];
+
+fn leaves(name: &str, leaf: Leaf) -> Comparison {
+    let mut found = Comparison::new(format!("edges of the leaves, {name}"));
+    for (which, x, expected) in LEAVES {
+        let got = leaf(which, x.to_bits(), 0);
+        found.hold(&got, &expected, || format!("function {which} of {x}: {got:08X}, expected {expected:08X}"));
+    }
+    for x in [65_536f32, -65_536.0] {
+        found.hold(&(leaf(0, x.to_bits(), 0) == NAN), &false, || format!("sin {x} is a NaN"));
+    }
+    found
+}
+
+pub fn compare(_: u64) -> Vec<Comparison> {
+    vec![leaves("oracle", by_rules), leaves("hf_leaf", service::leaf)]
+}

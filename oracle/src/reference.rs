@@ -1,0 +1,76 @@
+//! What `service` exports, in Rust over `expected`: the same arguments, the same words out, lent buffers left alone on a refusal.
+//! A slice of the wrong length is refused as 8 before anything else, except a lent table and row, whose place is document 01's.
+use crate::expected::{self, Gains, Refusal, SPACE, TABLE};
+
+/// The refusal's number, or 0.
+fn code(answer: Result<(), Refusal>) -> u32 {
+    answer.err().unwrap_or(0)
+}
+
+fn parm_of(floats: &[f32]) -> Result<&[f32; 20], Refusal> {
+    floats.try_into().map_err(|_| SPACE)
+}
+
+fn gains_of(mode: u32, floats: &[f32]) -> Result<Gains, Refusal> {
+    let all: &[f32; 58] = floats.try_into().map_err(|_| SPACE)?;
+    let at = |k: usize| all[k];
+    Ok(Gains {
+        mode,
+        parm: std::array::from_fn(at),
+        gainmax: std::array::from_fn(|row| std::array::from_fn(|column| at(20 + 3 * row + column))),
+        gainmaxb: std::array::from_fn(|k| at(26 + k)),
+        mhz: at(56),
+        design: at(57),
+    })
+}
+
+fn try_maxgain(mode: u32, floats: &[f32], out: &mut [u32]) -> Result<(), Refusal> {
+    let out: &mut [u32; 21] = out.try_into().map_err(|_| SPACE)?;
+    let (gain, parm) = expected::maxgain(&gains_of(mode, floats)?)?;
+    out[0] = gain.to_bits();
+    out[1..].copy_from_slice(&parm.map(f32::to_bits));
+    Ok(())
+}
+
+pub fn maxgain(mode: u32, floats: &[f32], out: &mut [u32]) -> u32 {
+    code(try_maxgain(mode, floats, out))
+}
+
+pub fn curtain(parm: &[f32], azimuth: f32, elevation: f32, factor: f32) -> u64 {
+    let answer = parm_of(parm).and_then(|parm| expected::curtain_gain(parm, azimuth, elevation, factor));
+    answer.map_or_else(|number| 3 << 32 | u64::from(number), |gain| gain.to_bits().into())
+}
+
+fn try_gains(parm: &[f32], giso: f32, directions: &[f32], out: &mut [u32]) -> Result<(), Refusal> {
+    let parm = parm_of(parm)?;
+    if directions.len() % 2 == 1 || out.len() != 4 + directions.len() {
+        return Err(SPACE);
+    }
+    let antenna = expected::set_up(parm, TABLE)?;
+    let (head, answers) = out.split_at_mut(4);
+    head.copy_from_slice(&antenna.words());
+    for (pair, answer) in directions.chunks(2).zip(answers.chunks_mut(2)) {
+        answer.copy_from_slice(&expected::gain(&antenna, pair[0], pair[1], giso).words());
+    }
+    Ok(())
+}
+
+pub fn gains(parm: &[f32], giso: f32, directions: &[f32], out: &mut [u32]) -> u32 {
+    code(try_gains(parm, giso, directions, out))
+}
+
+fn try_row(parm: &[f32], table: &mut [f32], giso: f32, elevation: f32, row: &mut [f32], out: &mut [u32]) -> Result<(), Refusal> {
+    let parm = parm_of(parm)?;
+    let out: &mut [u32; 5] = out.try_into().map_err(|_| SPACE)?;
+    let antenna = expected::set_up(parm, table.len())?;
+    antenna.copy_table(table);
+    out[..4].copy_from_slice(&antenna.words());
+    let (numbers, front_to_back) = expected::row(&antenna, elevation, giso, row.len()).map_err(|number| 256 + number)?;
+    row.copy_from_slice(&numbers);
+    out[4] = front_to_back.to_bits();
+    Ok(())
+}
+
+pub fn row(parm: &[f32], table: &mut [f32], giso: f32, elevation: f32, row: &mut [f32], out: &mut [u32]) -> u32 {
+    code(try_row(parm, table, giso, elevation, row, out))
+}
