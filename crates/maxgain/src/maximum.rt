@@ -175,8 +175,8 @@ fn grade(f: Found, parm: [f32; 20]) -> Maximum
     ensures { λ r. ⌜ r ≡ graded f parm ⌝ }
 {
     let gain = f.gain;
+    let p = f.parm;
     if numeric::float::is_finite(gain) {
-        let p = f.parm;
         Maximum {
             answer: Answer::Gain(gain),
             parm: p,

@@ -11,7 +11,7 @@ refuse-requires c κs = search needs
 
 returns : tie.Need-returns
 unfolding graded
-returns c = simp (c .before .if1 .taken, ← c .before .before .is-finite .ensures)
+returns c = simp (c .if1 .taken, ← c .before .is-finite .ensures)
 
 returns-2 : tie.Need-returns-2
 unfolding graded
