@@ -1,6 +1,7 @@
 -- The definitions that contracts cite: one file for each subject.
 pub mod Ops
 pub mod Literals
+pub mod Decimals
 pub mod Ranges
 pub mod Angle
 pub mod Counts

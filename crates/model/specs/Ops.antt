@@ -2,8 +2,10 @@
 use Prim.Native.Nat.{ℕ}
 use mathlib.Core.Bool.{Bool, false}
 use mathlib.Core.Path.{_≡_, refl}
+use mathlib.Core.List.{List}
+use lib.ListN.{getD}
 use lib.IntN.{pos}
-use lib.Ieee.{Float, fin, binary32, add, sub, mul, div, ofInt, ofBits}
+use lib.Ieee.{Float, nan, fin, binary32, add, sub, mul, div, ofInt, ofBits}
 
 infixl 20 _⊕_
 infixl 20 _⊖_
@@ -35,3 +37,7 @@ abbrev pub +0 : Float
 pub +0-is : +0 ≡ zero± false
 unfolding ofBits
 +0-is = refl
+
+-- an entry of an array
+abbrev pub at : List Float → ℕ → Float
+at l i = getD l i nan

@@ -1,0 +1,177 @@
+// The active elements of a log-periodic antenna, their currents and phases: the second half of
+// `logparm`.
+use crate::current::Band;
+use crate::current::Curves;
+use crate::current::current_of;
+use crate::current::phase_of;
+use model::range::is_between;
+ghost use mathlib.Core.Path.{_≡_};
+ghost use Prim.Native.Nat.{_<_, _≤_};
+ghost use Rattle.logperiodic.specs.Active.{shape, band, appended, activeTo, Listed, currents, phases, louder, loudest, relativePhases, strengths};
+
+// The numbers of the nat active elements, at 1 to nat.
+pub struct Active {
+    pub iek: [usize; 36],
+    pub nat: usize,
+}
+
+// The largest current, and the phase there.
+pub struct Loudest {
+    pub riamax: f32,
+    pub fimin: f32,
+}
+
+// `shf`: the resonant length by the feeder's impedance, in quarter wavelengths.
+fn shape_of(z0: f32) -> f32
+    ensures { λ r. ⌜ r ≡ shape z0 ⌝ }
+{
+    let z = z0 / 1000.0;
+    1.098790227 - 1.055146365 * z + 3.208544524 * (z * z) - 5.766460847 * ((z * z) * z)
+        + 4.054233788 * ((z * z) * (z * z))
+}
+
+// The lengths between which an element is active.
+pub fn band_of(z0: f32, rlambda: f32, sigma: f32, tau: f32) -> Band
+    ensures { λ r. ⌜ r ≡ band z0 rlambda sigma tau ⌝ }
+{
+    let rlc = rlambda * shape_of(z0) / 4.0;
+    let bar = 1.1 + 30.7 * sigma * (1.0 - tau);
+    let rllow = rlc / bar;
+    Band {
+        rllow,
+        rl0: rllow + 0.7166 * (rlc - rllow),
+        rlc,
+        rlup: 1.1 * rlc,
+    }
+}
+
+fn append(a: Active, i: usize) -> Active
+    requires { ⌜ a .nat < 35 ⌝ }
+    ensures { λ r. ⌜ r ≡ appended a i ⌝ }
+{
+    let nat = a.nat;
+    let mut iek = a.iek;
+    iek[nat + 1] = i;
+    Active { iek, nat: nat + 1 }
+}
+
+// The active ones of elements 1 to nel.
+pub fn active_of(s: Band, rl: [f32; 36], nel: usize) -> Active
+    requires { ⌜ nel ≤ 30 ⌝ }
+    ensures { λ r. ⌜ r ≡ activeTo s rl nel ⌝ }
+    ensures { λ r. ⌜ Listed (r .iek) (r .nat) ⌝ }
+{
+    let mut a = Active {
+        iek: [0; 36],
+        nat: 0,
+    };
+    let mut k: usize = 0;
+    while k < nel {
+        k += 1;
+        if is_between(rl[k], s.rllow, s.rlup) {
+            a = append(a, k);
+        }
+    }
+    a
+}
+
+// The currents of the active elements, 0 for all others.
+pub fn currents_of(a: Active, s: Band, p: Curves, rl: [f32; 36]) -> [f32; 31]
+    requires { ⌜ Listed (a .iek) (a .nat) ⌝ }
+    ensures { λ r. ⌜ r ≡ currents a s p rl ⌝ }
+{
+    let iek = a.iek;
+    let nat = a.nat;
+    let mut ria = [0.0f32; 31];
+    let mut k: usize = 0;
+    while k < nat {
+        k += 1;
+        let i = iek[k];
+        ria[i] = current_of(s, p, rl[i]);
+    }
+    ria
+}
+
+pub fn phases_of(a: Active, s: Band, rl: [f32; 36]) -> [f32; 36]
+    requires { ⌜ Listed (a .iek) (a .nat) ⌝ }
+    ensures { λ r. ⌜ r ≡ phases a s rl ⌝ }
+{
+    let iek = a.iek;
+    let nat = a.nat;
+    let mut fi = [0.0f32; 36];
+    let mut k: usize = 0;
+    while k < nat {
+        k += 1;
+        let i = iek[k];
+        fi[i] = phase_of(s, rl[i]);
+    }
+    fi
+}
+
+// The last of equal currents.
+fn louder_of(m: Loudest, ria: f32, fi: f32) -> Loudest
+    ensures { λ r. ⌜ r ≡ louder m ria fi ⌝ }
+{
+    if m.riamax <= ria {
+        Loudest {
+            riamax: ria,
+            fimin: fi,
+        }
+    } else {
+        m
+    }
+}
+
+pub fn loudest_of(a: Active, ria: [f32; 31], fi: [f32; 36]) -> Loudest
+    requires { ⌜ Listed (a .iek) (a .nat) ⌝ }
+    ensures { λ r. ⌜ r ≡ loudest a ria fi ⌝ }
+{
+    let iek = a.iek;
+    let nat = a.nat;
+    let mut m = Loudest {
+        riamax: 0.0,
+        fimin: 0.0,
+    };
+    let mut k: usize = 0;
+    while k < nat {
+        k += 1;
+        let i = iek[k];
+        m = louder_of(m, ria[i], fi[i]);
+    }
+    m
+}
+
+// The phases taken from the largest current's.
+pub fn relative_phases(a: Active, fi: [f32; 36], fimin: f32) -> [f32; 36]
+    requires { ⌜ Listed (a .iek) (a .nat) ⌝ }
+    ensures { λ r. ⌜ r ≡ relativePhases a fi fimin ⌝ }
+{
+    let iek = a.iek;
+    let nat = a.nat;
+    let mut out = fi;
+    let mut k: usize = 0;
+    while k < nat {
+        k += 1;
+        let i = iek[k];
+        out[i] = fi[i] - fimin;
+    }
+    out
+}
+
+// The currents by the largest, over the sine of the element's electrical length.
+pub fn strengths_of(a: Active, ria: [f32; 31], riamax: f32, beta: f32, rl: [f32; 36]) -> [f32; 36]
+    requires { ⌜ Listed (a .iek) (a .nat) ⌝ }
+    ensures { λ r. ⌜ r ≡ strengths a ria riamax beta rl ⌝ }
+{
+    let iek = a.iek;
+    let nat = a.nat;
+    let mut rim = [0.0f32; 36];
+    let mut k: usize = 0;
+    while k < nat {
+        k += 1;
+        let i = iek[k];
+        let rinm = ria[i] / riamax;
+        rim[i] = rinm / numeric::sine::sin(beta * rl[i]);
+    }
+    rim
+}

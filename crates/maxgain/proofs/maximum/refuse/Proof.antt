@@ -1,0 +1,11 @@
+use Rattle.maxgain.specs.Maximum.{refused}
+use mathlib.Core.Path.{refl}
+use Rattle.maxgain.proofs.maximum.refuse.Statement.{statement}
+use Rattle.maxgain.proofs.maximum.refuse.Tie as tie
+
+returns : tie.Need-returns
+unfolding refused
+returns c = refl
+
+pub refuse-spec : {M : Type 1} → statement M
+refuse-spec = tie.close (tie.spec returns)

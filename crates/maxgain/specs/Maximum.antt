@@ -1,0 +1,85 @@
+-- `setmaxgain` of the source, with document 01's refusals. Definitions only.
+use Prim.Native.Nat.{ℕ}
+use mathlib.Core.Bool.{Bool, true, cond, not, _&&_}
+use mathlib.Core.List.{List}
+use lib.ListN.{set}
+use lib.Dec.{ltb, leb, eqb}
+use lib.Ieee.{Float}
+use lib.Ieee.Scale.{finite}
+use Rattle.model.specs.Ops.{_⊘_, at}
+use Rattle.model.specs.Literals.{two, ten, thirty}
+use Rattle.model.specs.Ranges.{between, allFinite}
+use Rattle.model.specs.Angle.{jantOf}
+use Rattle.maxgain.specs.Literals.{n0·7, n1·4}
+use Rattle.maxgain.specs.Interpolation.{inBand, gainTerB, gainTerp}
+use Rattle.maxgain.specs.declared.maximum.Answer.the-variants.{Gain, Refused}
+use Rattle.maxgain.specs.declared.maximum.Maximum.{Maximum}
+use Rattle.maxgain.specs.declared.maximum.Found.{Found}
+use Rattle.maxgain.specs.declared.maximum.Tuning.{Tuning}
+
+-- ---- the modes
+
+-- x where it lies in 2..30 MHz, else another
+unfoldable pub usable : Float → Float → Float
+usable x other = cond (between x two thirty) x other
+
+-- a design value in 0.7..1.4 is a frequency ratio
+unfoldable pub designed : Float → Float → Float
+designed foper design = cond (between design n0·7 n1·4) (foper ⊘ design) design
+
+-- mode 1's frequencies: an operating one outside 2..30 is 10, and after the design rule a design one outside is the operating one
+unfoldable pub tuned : Float → Float → Tuning
+tuned mhz design =
+    let foper = usable mhz ten in
+    record { foper = foper; fdesign = usable (designed foper design) foper }
+
+-- slots 4 and 7, and slot 5 of type 8
+unfoldable pub tunedSlots : List Float → ℕ → Tuning → List Float
+tunedSlots parm iant t =
+    let p = set (set parm 4 (t .foper)) 7 (t .fdesign) in
+    cond (eqb iant 8) (set p 5 (t .fdesign)) p
+
+unfoldable pub asGiven : List Float → Found
+asGiven parm = record { gain = at parm 0; parm = parm }
+
+unfoldable pub byRatio : List Float → ℕ → List Float → Tuning → Found
+byRatio parm iant gainmax t = record { gain = gainTerp gainmax (t .foper) (t .fdesign) iant; parm = tunedSlots parm iant t }
+
+unfoldable pub byMhz : List Float → List Float → Float → Found
+byMhz parm gainmaxb mhz = record { gain = gainTerB gainmaxb mhz; parm = set parm 4 mhz }
+
+-- mode 0 takes slot 0, mode 1 the gains by frequency ratio, mode 2 the gains per MHz
+unfoldable pub found : ℕ → ℕ → List Float → List Float → List Float → Float → Float → Found
+found mode iant parm gainmax gainmaxb mhz design =
+    cond (eqb mode 0) (asGiven parm)
+    (cond (eqb mode 1) (byRatio parm iant gainmax (tuned mhz design))
+    (byMhz parm gainmaxb mhz))
+
+-- ---- the answer, with the numbers of document 01's table
+
+unfoldable pub inputsFinite : List Float → List Float → List Float → Float → Float → Bool
+inputsFinite parm gainmax gainmaxb mhz design =
+    allFinite parm && allFinite gainmax && allFinite gainmaxb && finite mhz && finite design
+
+unfoldable pub typeOk : ℕ → Bool
+typeOk iant = leb 1 iant && leb iant 9
+
+-- mode 2 alone has a band
+unfoldable pub bandOk : ℕ → Float → Bool
+bandOk mode mhz = cond (eqb mode 2) (inBand mhz) true
+
+-- a refusal leaves the parameters as they were
+unfoldable pub refused : ℕ → List Float → Maximum
+refused number parm = record { answer = Refused number; parm = parm }
+
+unfoldable pub graded : Found → List Float → Maximum
+graded f parm = cond (finite (f .gain)) (record { answer = Gain (f .gain); parm = f .parm }) (refused 10 parm)
+
+unfoldable pub setMaxGain : ℕ → List Float → List Float → List Float → Float → Float → Maximum
+setMaxGain mode parm gainmax gainmaxb mhz design =
+    let iant = jantOf (at parm 1) in
+    cond (not (inputsFinite parm gainmax gainmaxb mhz design)) (refused 2 parm)
+    (cond (not (typeOk iant)) (refused 3 parm)
+    (cond (ltb 2 mode) (refused 4 parm)
+    (cond (not (bandOk mode mhz)) (refused 5 parm)
+    (graded (found mode iant parm gainmax gainmaxb mhz design) parm))))

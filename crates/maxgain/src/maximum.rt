@@ -1,0 +1,217 @@
+// `setmaxgain`: the maximum gain for the operating frequency, the parameters that it changes, and
+// its refusals.
+use crate::interpolation::gainterb;
+use crate::interpolation::gainterp;
+use crate::interpolation::in_band;
+use model::angle::jant;
+use model::range::all_finite;
+use model::range::is_between;
+ghost use mathlib.Core.Path.{_≡_};
+ghost use mathlib.Core.Bool.{true};
+ghost use Prim.Native.Nat.{_≤_};
+ghost use Rattle.maxgain.specs.Interpolation.{inBand};
+ghost use Rattle.maxgain.specs.Maximum.{usable, designed, tuned, tunedSlots, byRatio, byMhz, asGiven, found, inputsFinite, typeOk, bandOk, refused, graded, setMaxGain};
+
+// A maximum gain in dBi, or the number of a refusal.
+pub enum Answer {
+    Gain(f32),
+    Refused(u8),
+}
+
+// The answer with the twenty parameters, which a refusal leaves as they were.
+pub struct Maximum {
+    pub answer: Answer,
+    pub parm: [f32; 20],
+}
+
+// A gain before it is known to be finite, with the parameters that go with it.
+pub struct Found {
+    pub gain: f32,
+    pub parm: [f32; 20],
+}
+
+// The operating and the design frequency in MHz.
+pub struct Tuning {
+    pub foper: f32,
+    pub fdesign: f32,
+}
+
+// x where it lies in 2..30 MHz, else other.
+fn usable_or(x: f32, other: f32) -> f32
+    ensures { λ r. ⌜ r ≡ usable x other ⌝ }
+{
+    if is_between(x, 2.0, 30.0) { x } else { other }
+}
+
+// The design frequency: a value in 0.7..1.4 is read as a frequency ratio.
+fn designed_mhz(foper: f32, design: f32) -> f32
+    ensures { λ r. ⌜ r ≡ designed foper design ⌝ }
+{
+    if is_between(design, 0.7, 1.4) {
+        foper / design
+    } else {
+        design
+    }
+}
+
+// The frequencies of mode 1.
+fn tuning_of(mhz: f32, design: f32) -> Tuning
+    ensures { λ r. ⌜ r ≡ tuned mhz design ⌝ }
+{
+    let foper = usable_or(mhz, 10.0);
+    let fdesign = usable_or(designed_mhz(foper, design), foper);
+    Tuning { foper, fdesign }
+}
+
+// The parameters with both frequencies; type 8 has its design frequency in slot 5 too.
+fn tuned_slots(parm: [f32; 20], iant: u32, t: Tuning) -> [f32; 20]
+    ensures { λ r. ⌜ r ≡ tunedSlots parm iant t ⌝ }
+{
+    let mut p = parm;
+    p[4] = t.foper;
+    p[7] = t.fdesign;
+    if iant == 8 {
+        p[5] = t.fdesign;
+    }
+    p
+}
+
+// Mode 0: slot 0.
+fn as_given(parm: [f32; 20]) -> Found
+    ensures { λ r. ⌜ r ≡ asGiven parm ⌝ }
+{
+    Found {
+        gain: parm[0],
+        parm,
+    }
+}
+
+// Mode 1: the gains by frequency ratio.
+fn by_ratio(parm: [f32; 20], iant: u32, gainmax: [f32; 6], t: Tuning) -> Found
+    ensures { λ r. ⌜ r ≡ byRatio parm iant gainmax t ⌝ }
+{
+    let p = tuned_slots(parm, iant, t);
+    Found {
+        gain: gainterp(gainmax, t.foper, t.fdesign, iant),
+        parm: p,
+    }
+}
+
+// Mode 2: the gains per MHz.
+fn by_mhz(parm: [f32; 20], gainmaxb: [f32; 30], mhz: f32) -> Found
+    requires { ⌜ inBand mhz ≡ true ⌝ }
+    ensures { λ r. ⌜ r ≡ byMhz parm gainmaxb mhz ⌝ }
+{
+    let mut p = parm;
+    p[4] = mhz;
+    Found {
+        gain: gainterb(gainmaxb, mhz),
+        parm: p,
+    }
+}
+
+// The gain by the mode.
+fn find(
+    mode: u8,
+    iant: u32,
+    parm: [f32; 20],
+    gainmax: [f32; 6],
+    gainmaxb: [f32; 30],
+    mhz: f32,
+    design: f32,
+) -> Found
+    requires { ⌜ (mode ≤ 2) × (bandOk mode mhz ≡ true) ⌝ }
+    ensures { λ r. ⌜ r ≡ found mode iant parm gainmax gainmaxb mhz design ⌝ }
+{
+    if mode == 0 {
+        as_given(parm)
+    } else if mode == 1 {
+        by_ratio(parm, iant, gainmax, tuning_of(mhz, design))
+    } else {
+        by_mhz(parm, gainmaxb, mhz)
+    }
+}
+
+fn inputs_finite(
+    parm: [f32; 20],
+    gainmax: [f32; 6],
+    gainmaxb: [f32; 30],
+    mhz: f32,
+    design: f32,
+) -> bool
+    ensures { λ r. ⌜ r ≡ inputsFinite parm gainmax gainmaxb mhz design ⌝ }
+{
+    all_finite(&parm)
+        & all_finite(&gainmax)
+        & all_finite(&gainmaxb)
+        & numeric::float::is_finite(mhz)
+        & numeric::float::is_finite(design)
+}
+
+fn type_ok(iant: u32) -> bool
+    ensures { λ r. ⌜ r ≡ typeOk iant ⌝ }
+{
+    (1 <= iant) & (iant <= 9)
+}
+
+// Mode 2 alone has a band.
+fn band_ok(mode: u8, mhz: f32) -> bool
+    ensures { λ r. ⌜ r ≡ bandOk mode mhz ⌝ }
+{
+    if mode == 2 { in_band(mhz) } else { true }
+}
+
+fn refuse(number: u8, parm: [f32; 20]) -> Maximum
+    ensures { λ r. ⌜ r ≡ refused number parm ⌝ }
+{
+    Maximum {
+        answer: Answer::Refused(number),
+        parm,
+    }
+}
+
+// What was found, or refusal 10 with the parameters as given.
+fn grade(f: Found, parm: [f32; 20]) -> Maximum
+    ensures { λ r. ⌜ r ≡ graded f parm ⌝ }
+{
+    let gain = f.gain;
+    let p = f.parm;
+    if numeric::float::is_finite(gain) {
+        Maximum {
+            answer: Answer::Gain(gain),
+            parm: p,
+        }
+    } else {
+        refuse(10, parm)
+    }
+}
+
+// `setmaxgain`: the maximum gain at mhz by the mode, with the parameters' changed slots: mode 0
+// takes slot 0, mode 1 the gains by frequency ratio, mode 2 the gains per MHz. gainmax has its two
+// rows one after the other.
+pub fn setmaxgain(
+    mode: u8,
+    parm: [f32; 20],
+    gainmax: [f32; 6],
+    gainmaxb: [f32; 30],
+    mhz: f32,
+    design: f32,
+) -> Maximum
+    ensures { λ r. ⌜ r ≡ setMaxGain mode parm gainmax gainmaxb mhz design ⌝ }
+{
+    if !inputs_finite(parm, gainmax, gainmaxb, mhz, design) {
+        return refuse(2, parm);
+    }
+    let iant = jant(parm[1]);
+    if !type_ok(iant) {
+        return refuse(3, parm);
+    }
+    if mode > 2 {
+        return refuse(4, parm);
+    }
+    if !band_ok(mode, mhz) {
+        return refuse(5, parm);
+    }
+    let f = find(mode, iant, parm, gainmax, gainmaxb, mhz, design);
+    grade(f, parm)
+}
