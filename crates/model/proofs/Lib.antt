@@ -1,2 +1,4 @@
 pub mod WholeNumbers
 pub mod Naturals
+pub mod ActiveElements
+pub mod Edges
