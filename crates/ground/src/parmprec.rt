@@ -14,7 +14,7 @@ ghost use lib.Ieee.{nan};
 ghost use Rattle.model.specs.Ops.{_⊗_};
 ghost use Rattle.model.specs.Counts.{elementsOk, countsOk};
 ghost use Rattle.ground.specs.Ground.{groundOf};
-ghost use Rattle.ground.specs.Table.{entryOf, rowTo, elevationsTo, logPeriodic, tableOf};
+ghost use Rattle.ground.specs.Table.{entryOf, rowTo, elevationsTo, blankTable, logPeriodic, tableOf};
 
 pub fn ground_of(iant: u32, k: Constants, t: Trig) -> Ground
     ensures { λ r. ⌜ r ≡ groundOf iant k t ⌝ }
@@ -43,16 +43,23 @@ pub fn ground_of(iant: u32, k: Constants, t: Trig) -> Ground
 
 // The active elements at elevation u, where the reflection is r and the phase delta for each
 // unit of height.
-fn fill_row(t: &mut [f32; 11284], u: usize, iant: u32, r: Reflection, delta: f32, e: Elements)
-    requires { ⌜ (u < 91) × (e .nat ≤ 30) × (elementsOk (e .iek) (e .nat) ≡ true) ⌝ }
-    ensures { λ _. ⌜ now (t .exit) ≡ rowTo (λ (i : ℕ). entryOf iant r (delta ⊗ getD (e .h) i nan)) (e .iek) u (now (t .entry)) (e .nat) ⌝ }
+fn fill_row(
+    t: &mut [f32; 11284],
+    u: usize,
+    iant: u32,
+    r: Reflection,
+    delta: f32,
+    elements: Elements,
+)
+    requires { ⌜ (u < 91) × (elements .nat ≤ 30) × (elementsOk (elements .iek) (elements .nat) ≡ true) ⌝ }
+    ensures { λ _. ⌜ now (t .exit) ≡ rowTo (λ (i : ℕ). entryOf iant r (delta ⊗ getD (elements .h) i nan)) (elements .iek) u (now (t .entry)) (elements .nat) ⌝ }
 {
-    let nat = e.nat;
+    let nat = elements.nat;
     let mut k: usize = 0;
     while k < nat {
         k += 1;
-        let i = e.iek[k];
-        let w = crate::entry::entry_of(iant, r, delta * e.h[i]);
+        let i = elements.iek[k];
+        let w = crate::entry::entry_of(iant, r, delta * elements.h[i]);
         crate::entry::put_entry(t, u, i, w);
     }
 }
@@ -63,15 +70,27 @@ fn fill_elevations(t: &mut [f32; 11284], m: Model)
     ensures { λ _. ⌜ now (t .exit) ≡ elevationsTo m (now (t .entry)) 91 ⌝ }
 {
     let trig = m.trig;
-    let e = m.elements;
+    let elements = m.elements;
     let mut u: usize = 0;
     while u < 91 {
         let a0 = trig.a[u];
         let r = crate::reflection::refcof(a0, trig.b[u], m.constants.d1, m.constants.e1);
         let delta = crate::entry::delta_of(m.iant, m.constants.beta, a0);
-        fill_row(t, u, m.iant, r, delta, e);
+        fill_row(t, u, m.iant, r, delta, elements);
         u += 1;
     }
+}
+
+fn blank_table() -> [f32; 11284]
+    ensures { λ r. ⌜ r ≡ blankTable ⌝ }
+{
+    [0.0f32; 11284]
+}
+
+fn log_periodic(iant: u32) -> bool
+    ensures { λ r. ⌜ r ≡ logPeriodic iant ⌝ }
+{
+    (iant == 5) | (iant == 6)
 }
 
 // The flat table of the log-periodic types, blank for all others.
@@ -79,8 +98,8 @@ pub fn table_of(m: Model) -> [f32; 11284]
     requires { ⌜ countsOk m ≡ true ⌝ }
     ensures { λ r. ⌜ r ≡ tableOf m ⌝ }
 {
-    let mut t = [0.0f32; 11284];
-    if (m.iant == 5) | (m.iant == 6) {
+    let mut t = blank_table();
+    if log_periodic(m.iant) {
         fill_elevations(&mut t, m);
     }
     t
