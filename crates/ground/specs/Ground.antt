@@ -39,6 +39,7 @@ stackOf iant k a0 =
     let pfra = k .pfr ⊗ a0 ⊗ two in
     cond (leb 4 iant) (single (k .h1) pfra) (stackTo (k .h1) pfra (turnsOf (nintOf (k .r3 ⊖ one))))
 
+-- the dipoles with their reflection
 unfoldable pub mixed : Stack → Reflection → Factors
 mixed s r =
     let w31 = one ⊖ r .t1 in
@@ -62,6 +63,7 @@ bare r = record { w3 = r .t1; w4 = r .t2; w5 = r .t3; w6 = r .t4; w9 = +0; w10 =
 unfoldable pub noFactors : Factors
 noFactors = record { w3 = +0; w4 = +0; w5 = +0; w6 = +0; w9 = +0; w10 = +0 }
 
+-- types up to 4, 8 and 9
 unfoldable pub overGround : ℕ → Bool
 overGround iant = leb iant 4 || eqb iant 8 || eqb iant 9
 

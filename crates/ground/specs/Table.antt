@@ -72,10 +72,3 @@ logPeriodic iant = eqb iant 5 || eqb iant 6
 -- the table of a model: entries not filled are +0
 unfoldable pub tableOf : Model → List Float
 tableOf m = cond (logPeriodic (m .iant)) (elevationsTo m blankTable 91) blankTable
-
--- what a table holds for element i at elevation u
-unfoldable pub entryIn : List Float → ℕ → ℕ → Entry
-entryIn t u i = record { ww1 = getD t (cell 0 u i) nan; ww2 = getD t (cell 1 u i) nan; ww3 = getD t (cell 2 u i) nan; ww4 = getD t (cell 3 u i) nan }
-
-abbrev pub blank : Entry
-blank = record { ww1 = +0; ww2 = +0; ww3 = +0; ww4 = +0 }

@@ -14,7 +14,7 @@ pub(crate) fn delta_of(iant: u32, beta: f32, a0: f32) -> f32
 }
 
 // The horizontal one, type 5: au and bu are the phase's sine and cosine.
-pub(crate) fn horizontal_entry(r: Reflection, au: f32, bu: f32) -> Entry
+fn horizontal_entry(r: Reflection, au: f32, bu: f32) -> Entry
     ensures { λ e. ⌜ e ≡ horizontalEntry r au bu ⌝ }
 {
     Entry {
@@ -26,7 +26,7 @@ pub(crate) fn horizontal_entry(r: Reflection, au: f32, bu: f32) -> Entry
 }
 
 // The vertical one, type 6, which fills two of the four.
-pub(crate) fn vertical_entry(r: Reflection, au: f32, bu: f32) -> Entry
+fn vertical_entry(r: Reflection, au: f32, bu: f32) -> Entry
     ensures { λ e. ⌜ e ≡ verticalEntry r au bu ⌝ }
 {
     Entry {
@@ -37,6 +37,7 @@ pub(crate) fn vertical_entry(r: Reflection, au: f32, bu: f32) -> Entry
     }
 }
 
+// A type's entry, from the reflection and the element's phase.
 pub(crate) fn entry_of(iant: u32, r: Reflection, phase: f32) -> Entry
     ensures { λ e. ⌜ e ≡ entryOf iant r phase ⌝ }
 {

@@ -13,7 +13,7 @@ pub struct Stack {
 }
 
 // One dipole at the height h1.
-pub(crate) fn one_dipole(h1: f32, pfra: f32) -> Stack
+fn one_dipole(h1: f32, pfra: f32) -> Stack
     ensures { λ r. ⌜ r ≡ single h1 pfra ⌝ }
 {
     let pfrh = pfra * h1;
@@ -24,7 +24,7 @@ pub(crate) fn one_dipole(h1: f32, pfra: f32) -> Stack
 }
 
 // n dipoles, the lowest at the height h1, each half a wave above the one below.
-pub(crate) fn stacked(h1: f32, pfra: f32, n: u32) -> Stack
+fn stacked(h1: f32, pfra: f32, n: u32) -> Stack
     ensures { λ r. ⌜ r ≡ stackTo h1 pfra n ⌝ }
 {
     let mut w1: f32 = 0.0;
@@ -39,7 +39,7 @@ pub(crate) fn stacked(h1: f32, pfra: f32, n: u32) -> Stack
 }
 
 // A type's dipoles at the elevation whose sine is a0.
-pub(crate) fn stack_of(iant: u32, k: Constants, a0: f32) -> Stack
+fn stack_of(iant: u32, k: Constants, a0: f32) -> Stack
     ensures { λ r. ⌜ r ≡ stackOf iant k a0 ⌝ }
 {
     let pfra = k.pfr * a0 * 2.0;
@@ -51,7 +51,7 @@ pub(crate) fn stack_of(iant: u32, k: Constants, a0: f32) -> Stack
 }
 
 // The dipoles with their reflection.
-pub(crate) fn mix(s: Stack, r: Reflection) -> Factors
+fn mix(s: Stack, r: Reflection) -> Factors
     ensures { λ f. ⌜ f ≡ mixed s r ⌝ }
 {
     let w31 = 1.0 - r.t1;
@@ -69,7 +69,7 @@ pub(crate) fn mix(s: Stack, r: Reflection) -> Factors
 }
 
 // The reflection alone, for the rhombic.
-pub(crate) fn bare_reflection(r: Reflection) -> Factors
+fn bare_reflection(r: Reflection) -> Factors
     ensures { λ f. ⌜ f ≡ bare r ⌝ }
 {
     Factors {
@@ -83,7 +83,7 @@ pub(crate) fn bare_reflection(r: Reflection) -> Factors
 }
 
 // What the other types leave.
-pub(crate) fn no_factors() -> Factors
+fn no_factors() -> Factors
     ensures { λ f. ⌜ f ≡ noFactors ⌝ }
 {
     Factors {
@@ -97,7 +97,7 @@ pub(crate) fn no_factors() -> Factors
 }
 
 // The types whose dipoles stand over ground: up to 4, 8 and 9.
-pub(crate) fn over_ground(iant: u32) -> bool
+fn over_ground(iant: u32) -> bool
     ensures { λ r. ⌜ r ≡ overGround iant ⌝ }
 {
     (iant <= 4) | (iant == 8) | (iant == 9)

@@ -16,6 +16,7 @@ ghost use Rattle.model.specs.Counts.{elementsOk, countsOk};
 ghost use Rattle.ground.specs.Ground.{groundOf};
 ghost use Rattle.ground.specs.Table.{entryOf, rowTo, elevationsTo, blankTable, logPeriodic, tableOf};
 
+// The tables of every type but 5 and 6.
 pub fn ground_of(iant: u32, k: Constants, t: Trig) -> Ground
     ensures { λ r. ⌜ r ≡ groundOf iant k t ⌝ }
 {
@@ -64,7 +65,8 @@ fn fill_row(
     }
 }
 
-// The source has the reflection of an elevation anew for each element.
+// All elevations. The source works the reflection out anew for each element; it is the same for
+// all of them.
 fn fill_elevations(t: &mut [f32; 11284], m: Model)
     requires { ⌜ countsOk m ≡ true ⌝ }
     ensures { λ _. ⌜ now (t .exit) ≡ elevationsTo m (now (t .entry)) 91 ⌝ }
