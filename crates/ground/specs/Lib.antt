@@ -1,0 +1,6 @@
+-- The definitions that contracts cite: one file for each subject.
+pub mod Filled
+pub mod Trig
+pub mod Reflection
+pub mod Ground
+pub mod Table

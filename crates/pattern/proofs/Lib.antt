@@ -1,0 +1,2 @@
+pub mod RhombicByParts
+pub mod CrossedByParts
