@@ -1,13 +1,13 @@
 -- A record is written word by word: four bytes at a time, with the h bits that are left carried to the next word. Assumes nothing.
-use mathlib.Core.Path.{_≡_, refl, sym, ap, _∙_, subst}
-use Prim.Native.Nat.{ℕ, zero, suc, _+_, _-_, _*_, _/_, _%_, _^_, _≤_, _<_}
-use native.Mathlib.Nat.{add-comm, add-assoc, mul-comm, mul-assoc, add-mul, add-mul-div-right, add-mul-mod-self-right, div-add-mod', mod-lt, div-eq-of-lt, mul-div-mul-right, mul-add-mod-self-left, div-lt-iff-lt-mul, mul-div-cancel, mul-mod-left, add-zero}
+use mathlib.Core.Path.{_≡_, refl, sym, ap, _∙_}
+use Prim.Native.Nat.{ℕ, suc, _+_, _-_, _*_, _/_, _%_, _^_, _≤_, _<_}
+use native.Mathlib.Nat.{add-comm, mul-comm, mul-assoc, add-mul, add-mul-div-right, add-mul-mod-self-right, div-add-mod', mod-lt, mul-div-mul-right, div-lt-iff-lt-mul, mul-div-cancel, mul-mod-left, add-zero}
 use native.Mathlib.Omega.{arith}
-use mathlib.Core.List.{List, [], _∷_, _++_, append-nil, append-assoc}
+use mathlib.Core.List.{List, [], _∷_, _++_}
 use lib.ListN.{length, take, drop, set, getD, length-append, drop-of-length-le}
 use lib.Seq.{sets, sets-eq, take-at, set-split, length-take-le, take-suc, take-all, length-sets}
 use lib.Arith.{digits-lt, digits-div, mod-mul}
-use lib.Pow.{pow-pos, pow-add}
+use lib.Pow.{pow-pos}
 use Rattle.station.specs.Digits.{after, digits}
 use Rattle.station.specs.Record.{packed}
 use Rattle.station.proofs.Digits.{after-append, digits-add, digits-mod-pow, length-digits, digits-last}

@@ -1,7 +1,7 @@
 -- Reading and writing undo each other: a record's fields over the header's width h, then edition 0's stations. Assumes nothing.
 use mathlib.Core.Path.{_≡_, refl, sym, ap, _∙_, subst}
 use mathlib.Core.Bool.{Bool, true, false, not, _&&_, cond}
-use Prim.Native.Nat.{ℕ, zero, suc, _+_, _-_, _*_, _/_, _%_, _^_, _≤_, _<_}
+use Prim.Native.Nat.{ℕ, _+_, _-_, _*_, _/_, _%_, _^_, _≤_, _<_}
 use native.Mathlib.Nat.{mul-comm, mul-assoc, mul-div-cancel, mul-mod-left, div-add-mod', div-eq-of-lt, mod-eq-of-lt, add-zero, mul-lt-mul-of-pos-right}
 use native.Mathlib.Omega.{arith}
 use mathlib.Core.List.{List, [], _∷_, map}
@@ -16,7 +16,7 @@ use Rattle.model.specs.Ranges.{allFinite}
 use Rattle.station.specs.declared.Station.{Station}
 use Rattle.station.specs.Digits.{after, number, digits, Below, none, more}
 use Rattle.station.specs.Record.{packed, headerIn, wordsIn, spareIn, floatsOf, stationOf, editionIn, modeIn, floatsIn, isRecord, recordOf, zeros}
-use Rattle.station.specs.Answers.{Answer, accepted, refused, floatsAnswer, readOf, writeOf}
+use Rattle.station.specs.Answers.{accepted, refused, floatsAnswer, readOf, writeOf}
 use Rattle.station.proofs.Digits.{after-lt, after-div, after-digits, length-digits, below-digits, read-digits, write-digits}
 use Rattle.station.proofs.Finite.{finite-value, allFinite-cons}
 use Rattle.station.proofs.Arrays.{station-of, floats-back, floats-length}

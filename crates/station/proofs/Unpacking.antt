@@ -1,14 +1,13 @@
 -- The words of a record's bytes, over the header's width h: word k lies in the five bytes from byte 4 * k on. Assumes nothing.
 use mathlib.Core.Path.{_≡_, refl, sym, ap, _∙_, subst}
 use Prim.Native.Nat.{ℕ, zero, suc, _+_, _-_, _*_, _/_, _%_, _^_, _≤_, _<_}
-use native.Mathlib.Nat.{add-zero, zero-add, mul-zero, add-suc, mul-suc, add-comm, mul-comm, mul-assoc, add-mul-div-right, add-mul-mod-self-right, div-div-eq-div-mul, pow-succ', add-sub-of-le}
+use native.Mathlib.Nat.{add-zero, zero-add, add-suc, mul-suc, add-comm, mul-comm, mul-assoc, add-mul-div-right, add-mul-mod-self-right, div-div-eq-div-mul, pow-succ', add-sub-of-le}
 use native.Mathlib.Omega.{arith}
-use native.Mathlib.Numerals.{add-one}
-use mathlib.Core.List.{List, [], _∷_, _++_}
+use mathlib.Core.List.{List, [], _∷_}
 use lib.ListN.{length, take, drop, getD, length-drop, take-append-drop, length-map, List·getD-map}
 use lib.Seq.{drop-cons, take-add, take-suc, take-all}
 use borrow.Author.Tests.{eq-eqb}
-use mathlib.Core.Bool.{Bool, true, _&&_}
+use mathlib.Core.Bool.{true, _&&_}
 use lib.Ieee.Fits.{and-l}
 use lib.Dec.{T, eqb, eqb→eq, lit≤}
 use lib.Ieee.{nan, binary32, ofBits}

@@ -1,7 +1,7 @@
 // The station record: 225 bytes with a mode and 56 floats, read and written. specs/Record.antt says
 // what a record is, specs/Answers.antt what the reader and the writer answer.
 pub mod floats;
-mod words;
+pub mod words;
 
 use floats::all_finite;
 use floats::blank;

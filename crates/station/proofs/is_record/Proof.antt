@@ -1,5 +1,5 @@
 -- `station::is_record` meets its contract. Assumes nothing.
-use mathlib.Core.Path.{_≡_, sym, ap, _∙_}
+use mathlib.Core.Path.{sym, ap, _∙_}
 use mathlib.Core.Bool.{Bool, _&&_}
 use Prim.Native.Nat.{_/_, _%_}
 use lib.ListN.{length, getD}

@@ -1,13 +1,12 @@
 -- `station::put_record` meets its contract. Assumes nothing.
-use mathlib.Core.Path.{_≡_, refl, sym, ap, _∙_, subst}
-use mathlib.Core.Bool.{true, false}
+use mathlib.Core.Path.{_≡_, sym, ap, _∙_, subst}
 use mathlib.Core.List.{List, map}
 use Prim.Native.Nat.{ℕ, _-_, _*_, _≤_, _<_}
 use native.Mathlib.Nat.{mod-eq-of-lt}
 use native.Mathlib.Omega.{arith}
 use native.Mathlib.Numerals.{add-one}
-use lib.ListN.{take, length, getD, length-map, length-set, List·getD-map}
-use lib.Ieee.{Float, binary32, toBits, fits, nan}
+use lib.ListN.{length, getD, length-map, length-set, List·getD-map}
+use lib.Ieee.{binary32, toBits, fits, nan}
 use lib.Ieee.Bits.{toBits-lt}
 use lib.Dec.{T, lit≤}
 use borrow.Author.Needs.{needs}

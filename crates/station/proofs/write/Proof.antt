@@ -1,11 +1,11 @@
 -- `station::write` meets its contract: the tests in the order of the refusals' numbers, then the record. Assumes nothing.
-use mathlib.Core.Path.{_≡_, refl, sym, _∙_}
+use mathlib.Core.Path.{_≡_, sym, _∙_}
 use mathlib.Core.Bool.{true}
 use borrow.Author.Needs.{needs}
 use borrow.Author.Tests.{not-true, not-false, le-leb, lt-leb, eq-eqb, ne-eqb}
 use Rattle.model.specs.Ranges.{allFinite}
 use Rattle.station.specs.Record.{floatsOf}
-use Rattle.station.specs.Answers.{accepted, writeOf}
+use Rattle.station.specs.Answers.{writeOf}
 use Rattle.station.proofs.write.Statement.{statement}
 use Rattle.station.proofs.write.Tie as tie
 
