@@ -1,38 +1,15 @@
--- Which words are finite floats, and laws of model's `allFinite`. Assumes nothing.
+-- Finite floats, and laws of model's `allFinite`. Assumes nothing.
 use mathlib.Core.Path.{_≡_, refl, sym, ap, _∙_, subst}
-use Prim.Native.Nat.{ℕ, zero, suc, _+_, _/_, _-_, _%_, _<_}
+use Prim.Native.Nat.{ℕ, zero, suc, _+_, _-_, _<_}
 use native.Mathlib.Nat.{add-zero, add-suc}
 use native.Mathlib.Omega.{arith}
-use mathlib.Core.Bool.{Bool, true, false, not, _&&_, cond, and-assoc, and-comm, and-false}
+use mathlib.Core.Bool.{Bool, true, false, not, _&&_, and-assoc, and-comm, and-false}
 use mathlib.Core.List.{List, [], _∷_, _++_}
 use lib.ListN.{length, getD}
-use lib.Dec.{T, eqb, leb}
-use lib.Ieee.{Float, nan, inf, fin, binary32, hid, odd, ofFields, ofBits, isNan, nanBits}
-use lib.Ieee.Bits.{nanBits-is}
+use lib.Dec.{T}
+use lib.Ieee.{Float, nan, inf, fin, isNan}
 use lib.Ieee.Scale.{finite}
 use Rattle.model.specs.Ranges.{finiteTo, allFinite}
-
--- ---- one word
-
--- an all-ones exponent a, with no digits b or some
-finite-cond : (a b s : Bool) (v : Float) → finite v ≡ true → finite (cond a (cond b (inf s) nan) v) ≡ not a
-finite-cond true true s v h = refl
-finite-cond true false s v h = refl
-finite-cond false b s v h = h
-
-finite-odd : (d : ℕ) (s : Bool) (q k l : ℕ) → finite (odd d s q k l) ≡ true
-unfolding odd
-finite-odd d s zero k l = refl
-finite-odd d s (suc q) k l = refl
-
-finite-fields : (s : Bool) (x t : ℕ) → finite (ofFields binary32 s x t) ≡ not (eqb x 255)
-unfolding ofFields
-finite-fields s zero t = finite-odd 24 s t 0 149
-finite-fields s (suc x) t = finite-cond (eqb (suc x) 255) (eqb t 0) s (odd 24 s (hid binary32 + t) x 149) (finite-odd 24 s (hid binary32 + t) x 149)
-
-pub finite-word : (w : ℕ) → finite (ofBits binary32 w) ≡ not (eqb (w % 0x8000_0000 / 0x80_0000) 255)
-unfolding ofBits
-finite-word w = finite-fields (leb 0x8000_0000 w) (w % 0x8000_0000 / 0x80_0000) (w % 0x80_0000)
 
 finite-not-nan : (v : Float) → finite v ≡ true → isNan v ≡ false
 unfolding isNan
@@ -42,12 +19,6 @@ finite-not-nan (fin s m e) h = refl
 
 pub finite-value : (v : Float) → finite v ≡ true → T (not (isNan v))
 finite-value v h = subst (λ (b : Bool). T (not b)) (sym (finite-not-nan v h)) tt
-
--- a word that is finite is no NaN's
-pub finite-no-nan : (w : ℕ) → finite (ofBits binary32 w) ≡ true → T (not (nanBits binary32 w))
-finite-no-nan w h = subst (λ (b : Bool). T (not b)) (sym (nanBits-is binary32 w ∙ finite-not-nan (ofBits binary32 w) h)) tt
-
--- ---- lists of floats
 
 finiteTo-cons : (x : Float) (xs : List Float) (n : ℕ) → finiteTo (x ∷ xs) (suc n) ≡ (finite x && finiteTo xs n)
 unfolding finiteTo
@@ -84,10 +55,3 @@ unfolding allFinite
 finite-none l k h q =
     let e : length l ≡ suc (k + (length l - suc k)) = omega arith in
     ap (finiteTo l) e ∙ none-above l k (length l - suc k) q
-
-pub finite-at : (l : List Float) (k : ℕ) → k < length l → allFinite l ≡ true → finite (getD l k nan) ≡ true
-finite-at l k h p = go (finite (getD l k nan)) refl
-  where
-    go : (t : Bool) → finite (getD l k nan) ≡ t → finite (getD l k nan) ≡ true
-    go true e = e
-    go false e = absurd (subst T (sym p ∙ finite-none l k h e) tt)

@@ -21,7 +21,7 @@ pub fn blank(mode: u8) -> Station
 }
 
 // Float k.
-pub fn float_of(s: Station, k: usize) -> f32
+pub fn float_at(s: Station, k: usize) -> f32
     requires { ⌜ k < 56 ⌝ }
     ensures { λ r. ⌜ r ≡ getD (floatsOf s) k nan ⌝ }
 {

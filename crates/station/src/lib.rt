@@ -1,21 +1,22 @@
 // The station record: 225 bytes with a mode and 56 floats, read and written. specs/Record.antt says
 // what a record is, specs/Answers.antt what the reader and the writer answer.
+pub mod bits;
 pub mod floats;
 pub mod words;
 
+use bits::bits_of;
+use bits::float_of;
 use floats::all_finite;
 use floats::blank;
-use floats::float_of;
+use floats::float_at;
 use floats::with_float;
-use words::finite_word;
+use numeric::float::is_finite;
 use words::put_word;
 use words::word_at;
 ghost use mathlib.Core.Path.{_≡_};
 ghost use Prim.Native.Nat.{_≤_};
-ghost use mathlib.Core.Bool.{true};
 ghost use lib.ListN.{length};
-ghost use Rattle.model.specs.Ranges.{allFinite};
-ghost use Rattle.station.specs.Record.{isRecord, floatsIn, floatsOf, recordOf, zeros};
+ghost use Rattle.station.specs.Record.{isRecord, floatsIn, recordOf, zeros};
 ghost use Rattle.station.specs.Answers.{answer, refused, floatsAnswer, readOf, writeOf};
 
 // A station: the mode (`modegain`, 3 for the curtain), `parm`, `gainmax` row by row, `gainmaxb`.
@@ -72,11 +73,11 @@ fn read_floats(bytes: &[u8], mode: u8) -> Reading
     let mut station = blank(mode);
     let mut k: usize = 0;
     while k < 56 {
-        let w = word_at(bytes, k, HEADER);
-        if !finite_word(w) {
+        let x = float_of(word_at(bytes, k, HEADER));
+        if !is_finite(x) {
             return refuse(2);
         }
-        station = with_float(station, k, f32::from_bits(w));
+        station = with_float(station, k, x);
         k += 1;
     }
     Reading {
@@ -95,15 +96,15 @@ pub fn read(bytes: &[u8]) -> Reading
     read_floats(bytes, bytes[0] / 16 % 4)
 }
 
-// Writes the record of a station that is accepted over 225 bytes.
+// Writes a station's record over 225 bytes.
 fn put_record(s: Station, out: &mut [u8])
-    requires { ⌜ (length (now out) ≡ 225) × (allFinite (floatsOf s) ≡ true) × (s .mode ≤ 3) ⌝ }
+    requires { ⌜ (length (now out) ≡ 225) × (s .mode ≤ 3) ⌝ }
     ensures { λ _. ⌜ now (out .exit) ≡ recordOf s ⌝ }
 {
     let mut carry = s.mode as u32;
     let mut k: usize = 0;
     while k < 56 {
-        let w = f32::to_bits(float_of(s, k));
+        let w = bits_of(float_at(s, k));
         carry = put_word(out, 4 * k, carry, w, HEADER);
         k += 1;
     }

@@ -4,17 +4,8 @@ ghost use Prim.Native.Nat.{_+_, _*_, _/_, _%_, _^_, _≤_, _<_};
 ghost use mathlib.Core.List.{[], _∷_};
 ghost use lib.ListN.{length, getD};
 ghost use lib.Seq.{sets};
-ghost use lib.Ieee.{binary32, ofBits};
-ghost use lib.Ieee.Scale.{finite};
 ghost use Rattle.station.specs.Digits.{digits};
 ghost use Rattle.station.specs.Record.{wordIn, wordsIn};
-
-// Whether a word is a finite float's: the exponent's bits are not all ones.
-pub fn finite_word(w: u32) -> bool
-    ensures { λ r. ⌜ r ≡ finite (ofBits binary32 w) ⌝ }
-{
-    w % 0x8000_0000 / 0x80_0000 != 255
-}
 
 // The word in five bytes: the 32 bits after the header's.
 fn word_of(a: u8, b: u8, c: u8, d: u8, e: u8, header: u32) -> u32

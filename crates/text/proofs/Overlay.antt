@@ -5,18 +5,12 @@ use native.Mathlib.Nat.{add-zero, add-assoc}
 use native.Mathlib.Numerals.{add-one}
 use native.Mathlib.Omega.{arith}
 use mathlib.Core.List.{List, [], _∷_, _++_, append-assoc, append-nil, map}
-use lib.ListN.{length, take, drop, set, length-append, length-drop, length-map, take-append-drop}
+use lib.ListN.{length, take, drop, set, length-append, length-map, take-append-drop}
 use lib.Seq.{set-split, append-snoc, take-at, drop-append-add, length-take-le, drop-drop}
 use Rattle.text.specs.Writing.{overlaid, Wrote}
 use Rattle.text.specs.Numbers.{character}
 use Rattle.station.specs.Digits.{digits}
 use Rattle.station.proofs.Digits.{length-digits}
-
-pub overlaid-length : (l : List ℕ) (at : ℕ) (s : List ℕ) → at + length s ≤ length l → length (overlaid l at s) ≡ length l
-unfolding overlaid
-overlaid-length l at s h =
-    length-append (take at l ++ s) (drop (at + length s) l)
-    ∙ omega (arith, length-append (take at l) s, length-take-le at l (omega arith), length-drop (at + length s) l)
 
 pub overlaid-none : (l : List ℕ) (at : ℕ) → l ≡ overlaid l at []
 unfolding overlaid

@@ -3,11 +3,10 @@ use crate::bytes::push;
 use crate::bytes::push_bytes;
 use crate::digits::push_decimal;
 use crate::digits::push_hexadecimal;
+use station::bits::bits_of;
 ghost use mathlib.Core.Path.{_≡_};
-ghost use mathlib.Core.Bool.{true};
 ghost use Prim.Native.Nat.{_+_, _≤_, _<_};
 ghost use lib.ListN.{length};
-ghost use Rattle.model.specs.Ranges.{allFinite};
 ghost use Rattle.text.specs.Writing.{Wrote};
 ghost use Rattle.text.specs.Lines.{kindName, line, kindOf, lines, refusalLine};
 
@@ -56,15 +55,14 @@ fn push_line(out: &mut [u8], at: usize, azimuth: u32, bits: u32, kind: Kind) -> 
 
 // The 360 lines of a row, from the buffer's start on.
 pub fn put_lines(out: &mut [u8], silent: bool, row: &[f32]) -> usize
-    requires { ⌜ (length (now row) ≡ 360) × (allFinite (now row) ≡ true) × (7560 ≤ length (now out)) ⌝ }
+    requires { ⌜ (length (now row) ≡ 360) × (7560 ≤ length (now out)) ⌝ }
     ensures { λ r. ⌜ Wrote (now (out .entry)) 0 (lines silent (now (row .entry)) 360) (now (out .exit)) r ⌝ }
 {
     let mut at: usize = 0;
     let mut k: usize = 0;
     while k < 360 {
         let x = row[k];
-        let bits = f32::to_bits(x);
-        at = push_line(out, at, k as u32, bits, kind_of(silent, x));
+        at = push_line(out, at, k as u32, bits_of(x), kind_of(silent, x));
         k += 1;
     }
     at

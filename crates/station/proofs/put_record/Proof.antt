@@ -1,4 +1,4 @@
--- `station::put_record` meets its contract. Assumes nothing.
+-- `station::put_record` meets its contract: the words so far are written, but for the bits that are carried. Assumes nothing.
 use mathlib.Core.Path.{_≡_, sym, ap, _∙_, subst}
 use mathlib.Core.List.{List, map}
 use Prim.Native.Nat.{ℕ, _-_, _*_, _≤_, _<_}
@@ -6,14 +6,11 @@ use native.Mathlib.Nat.{mod-eq-of-lt}
 use native.Mathlib.Omega.{arith}
 use native.Mathlib.Numerals.{add-one}
 use lib.ListN.{length, getD, length-map, length-set, List·getD-map}
-use lib.Ieee.{binary32, toBits, fits, nan}
-use lib.Ieee.Bits.{toBits-lt}
-use lib.Dec.{T, lit≤}
+use lib.Ieee.{binary32, toBits, nan}
+use lib.Dec.{lit≤}
 use borrow.Author.Needs.{needs}
 use Rattle.station.specs.declared.Station.{Station}
-use lib.Ieee.Scale.{finite}
 use Rattle.station.specs.Record.{floatsOf, recordOf}
-use Rattle.station.proofs.Finite.{finite-at, finite-value}
 use Rattle.station.proofs.Arrays.{floats-length}
 use Rattle.station.proofs.Packing.{Written, written-none, written-carry, written-more, written-all}
 use Rattle.station.proofs.put_record.Statement.{statement}
@@ -31,34 +28,31 @@ abbrev μ-loop : tie.MeasureT-loop
 cast-carry : tie.Need-cast-carry Inv-loop μ-loop
 cast-carry c = search needs
 
-count : (c : tie.Start Inv-loop μ-loop) → length (floatsOf (c .args .s)) ≡ 56
-count c = floats-length (c .args .s) (search needs) (search needs) (search needs)
-
 words-count : (c : tie.Start Inv-loop μ-loop) → length (wordsOf (c .args .s)) ≡ 56
-words-count c = length-map (floatsOf (c .args .s)) (toBits binary32) ∙ count c
+words-count c = length-map (floatsOf (c .args .s)) (toBits binary32) ∙ floats-length (c .args .s) (search needs) (search needs) (search needs)
 
 carry-small : (c : tie.At-loop Inv-loop μ-loop) → c .loop .carry < 16
-carry-small c = written-carry 4 (c .before .before .before .args .s .mode) (wordsOf (c .before .before .before .args .s)) (c .loop .out) (c .loop .carry) (c .loop .k) (c .loop .inv .1)
+carry-small c =
+    let s = c .before .before .before .args .s in
+    written-carry 4 (s .mode) (wordsOf s) (c .loop .out) (c .loop .carry) (c .loop .k) (c .loop .inv .1)
 
 loop-holds : tie.Need-loop-holds Inv-loop μ-loop
-loop-holds c = (omega arith, subst (λ (x : ℕ). Written 4 (c .before .before .args .s .mode) (wordsOf (c .before .before .args .s)) (c .before .before .args .out .now) x 0) (mod-eq-of-lt (omega arith)) (written-none 4 (c .before .before .args .s .mode) (wordsOf (c .before .before .args .s)) (c .before .before .args .out .now) (c .before .before .pre .0)))
+loop-holds c =
+    let s = c .before .before .args .s in
+    let out = c .before .before .args .out .now in
+    (omega arith, subst (λ (x : ℕ). Written 4 (s .mode) (wordsOf s) out x 0) (mod-eq-of-lt (omega arith)) (written-none 4 (s .mode) (wordsOf s) out (c .before .before .pre .0)))
 
-float-of-requires : tie.Need-float-of-requires Inv-loop μ-loop
-float-of-requires c κs = omega arith
+float-at-requires : tie.Need-float-at-requires Inv-loop μ-loop
+float-at-requires c κs = omega arith
 
-float-to-bits-w : tie.Need-float-to-bits-w Inv-loop μ-loop
-float-to-bits-w c =
-    let head = c .before .before in
-    let s = head .before .before .before .args .s in
-    let k = head .loop .k in
-    finite-value (c .float-of .result)
-    (ap finite (c .float-of .ensures) ∙ finite-at (floatsOf s) k (omega (arith, count (head .before .before .before))) (head .before .before .before .pre .1))
+bits-of-requires : tie.Need-bits-of-requires Inv-loop μ-loop
+bits-of-requires c κs = tt
 
 mul-put-word : tie.Need-mul-put-word Inv-loop μ-loop
 mul-put-word c = omega arith
 
 put-word-requires : tie.Need-put-word-requires Inv-loop μ-loop
-put-word-requires c κs = (omega arith, carry-small (c .before .before .before), lit≤ tt)
+put-word-requires c κs = (omega arith, carry-small (c .before .before .before .before), lit≤ tt)
 
 add-k : tie.Need-add-k Inv-loop μ-loop
 add-k c = omega arith
@@ -68,15 +62,16 @@ loop-less c = omega arith
 
 loop-again : tie.Need-loop-again Inv-loop μ-loop
 loop-again c =
-    let head = c .before .before .before .before .before .before in
-    let s = head .before .before .before .args .s in
-    let k = head .loop .k in
-    let x = c .before .before .before .before .float-of .result in
-    let e : toBits binary32 x ≡ getD (wordsOf s) k (toBits binary32 nan) = ap (toBits binary32) (c .before .before .before .before .float-of .ensures) ∙ sym (List·getD-map (toBits binary32) (floatsOf s) k nan) in
-    let f : T (fits binary32 x) = search needs in (
+    let put = c .before .before in
+    let word = put .before .before in
+    let head = word .before .before .before in
+    let start = head .before .before .before in
+    let s = start .args .s in
+    let w = word .bits-of .result in
+    let e : w ≡ getD (wordsOf s) (head .loop .k) (toBits binary32 nan) = word .bits-of .ensures ∙ ap (toBits binary32) (word .before .float-at .ensures) ∙ sym (List·getD-map (toBits binary32) (floatsOf s) (head .loop .k) nan) in (
       omega arith,
-      rw (add-one, c .before .before .put-word .ensures .1, c .before .before .put-word .ensures .0)
-          (written-more 4 (s .mode) (wordsOf s) (head .loop .out) (head .loop .carry) k (toBits binary32 x) (toBits binary32 nan) (head .loop .inv .1) (words-count (head .before .before .before)) (omega arith) e (toBits-lt binary32 x f)),
+      rw (add-one, put .put-word .ensures .1, put .put-word .ensures .0)
+          (written-more 4 (s .mode) (wordsOf s) (head .loop .out) (head .loop .carry) (head .loop .k) w (toBits binary32 nan) (head .loop .inv .1) (words-count start) (omega arith) e (omega arith)),
     )
 
 mul-out : tie.Need-mul-out Inv-loop μ-loop
@@ -94,9 +89,10 @@ same-length c = length-set (c .before .loop .out) 224 (c .before .loop .carry * 
 returns : tie.Need-returns Inv-loop μ-loop
 unfolding recordOf
 returns c =
-    let s = c .before .before .before .before .args .s in
+    let start = c .before .before .before .before in
+    let s = start .args .s in
     let e : c .before .loop .k ≡ 56 = omega arith in
-    written-all 4 (lit≤ tt) (s .mode) (wordsOf s) (c .before .loop .out) (c .before .loop .carry) (rw e at (c .before .loop .inv .1)) (words-count (c .before .before .before .before))
+    written-all 4 (lit≤ tt) (s .mode) (wordsOf s) (c .before .loop .out) (c .before .loop .carry) (rw e at (c .before .loop .inv .1)) (words-count start)
 
 pub put-record-spec : {M : Type 1} → statement M
 put-record-spec =
@@ -106,8 +102,8 @@ put-record-spec =
     μ-loop
     cast-carry
     loop-holds
-    float-of-requires
-    float-to-bits-w
+    float-at-requires
+    bits-of-requires
     mul-put-word
     put-word-requires
     add-k

@@ -14,7 +14,7 @@ use borrow.Author.Tests.{not-true, not-false}
 use Rattle.model.specs.Ranges.{finiteTo, allFinite}
 use Rattle.station.specs.Record.{floatsIn, stationOf, zeros}
 use Rattle.station.specs.Answers.{floatsAnswer}
-use Rattle.station.proofs.Finite.{finite-more, finite-none, finite-no-nan}
+use Rattle.station.proofs.Finite.{finite-more, finite-none}
 use Rattle.station.proofs.Arrays.{pasted, pasted-all}
 use Rattle.station.proofs.Unpacking.{float-in, floats-in-length}
 use Rattle.station.proofs.read_floats.Statement.{statement}
@@ -39,12 +39,17 @@ loop-holds c = (omega arith, refl, c .blank .ensures ∙ ap (stationOf (c .befor
 word-at-requires : tie.Need-word-at-requires Inv-loop μ-loop
 word-at-requires c κs = (c .before .before .before .before .pre, omega arith, lit≤ tt)
 
-finite-word-requires : tie.Need-finite-word-requires Inv-loop μ-loop
-finite-word-requires c κs = tt
+float-of-requires : tie.Need-float-of-requires Inv-loop μ-loop
+float-of-requires c κs = tt
 
--- float k is the word that was read
-read-float : (c : tie.After-word-at Inv-loop μ-loop) → getD (floatsIn (c .before .before .before .before .before .args .bytes .now)) (c .before .before .loop .k) nan ≡ ofBits binary32 (c .word-at .result)
-read-float c = float-in (c .before .before .before .before .before .args .bytes .now) (c .before .before .loop .k) (omega arith) ∙ sym (ap (ofBits binary32) (c .word-at .ensures))
+is-finite-requires : tie.Need-is-finite-requires Inv-loop μ-loop
+is-finite-requires c κs = tt
+
+-- what was read is float k
+read-float : (c : tie.After-float-of Inv-loop μ-loop) → c .float-of .result ≡ getD (floatsIn (c .before .before .before .before .before .before .args .bytes .now)) (c .before .before .before .loop .k) nan
+read-float c =
+    let head = c .before .before .before in
+    c .float-of .ensures ∙ ap (ofBits binary32) (c .before .word-at .ensures) ∙ sym (float-in (head .before .before .before .args .bytes .now) (head .loop .k) (omega arith))
 
 refuse-requires : tie.Need-refuse-requires Inv-loop μ-loop
 refuse-requires c κs = tt
@@ -52,14 +57,12 @@ refuse-requires c κs = tt
 returns : tie.Need-returns Inv-loop μ-loop
 unfolding floatsAnswer
 returns c =
-    let w = c .before .before .before in
-    let bytes = w .before .before .before .before .before .args .bytes .now in
-    let k = w .before .before .loop .k in
-    let e : finite (getD (floatsIn bytes) k nan) ≡ false = ap finite (read-float w) ∙ sym (c .before .before .finite-word .ensures) ∙ not-true _ (c .before .if1 .taken) in
+    let x = c .before .before .before in
+    let head = x .before .before .before in
+    let bytes = head .before .before .before .args .bytes .now in
+    let k = head .loop .k in
+    let e : finite (getD (floatsIn bytes) k nan) ≡ false = sym (ap finite (read-float x)) ∙ sym (c .before .before .is-finite .ensures) ∙ not-true _ (c .before .if1 .taken) in
     c .refuse .ensures ∙ sym (rw (finite-none (floatsIn bytes) k (omega (arith, floats-in-length bytes)) e))
-
-float-from-bits-with-float : tie.Need-float-from-bits-with-float Inv-loop μ-loop
-float-from-bits-with-float c = finite-no-nan (c .before .before .word-at .result) (sym (c .before .finite-word .ensures) ∙ not-false _ (c .if1 .left))
 
 with-float-requires : tie.Need-with-float-requires Inv-loop μ-loop
 with-float-requires c κs = omega arith
@@ -72,15 +75,15 @@ loop-less c = omega arith
 
 loop-again : tie.Need-loop-again Inv-loop μ-loop
 loop-again c =
-    let w = c .before .before .before in
-    let head = w .before .before in
+    let x = c .before .before .before in
+    let head = x .before .before .before in
     let start = head .before .before .before in
     let fs = floatsIn (start .args .bytes .now) in
     let k = head .loop .k in
-    let e : finite (getD fs k nan) ≡ true = ap finite (read-float w) ∙ sym (c .before .before .finite-word .ensures) ∙ not-false _ (c .before .if1 .left) in (
+    let e : finite (getD fs k nan) ≡ true = sym (ap finite (read-float x)) ∙ sym (c .before .before .is-finite .ensures) ∙ not-false _ (c .before .if1 .left) in (
       omega arith,
       rw add-one (finite-more fs k (head .loop .inv .1) e),
-      rw add-one (c .with-float .ensures ∙ pasted (start .args .mode) blanks fs k (ofBits binary32 (w .word-at .result)) nan (head .loop .station) (head .loop .inv .2) (sym (read-float w)) (omega arith) (omega (arith, floats-in-length (start .args .bytes .now)))),
+      rw add-one (c .with-float .ensures ∙ pasted (start .args .mode) blanks fs k (x .float-of .result) nan (head .loop .station) (head .loop .inv .2) (read-float x) (omega arith) (omega (arith, floats-in-length (start .args .bytes .now)))),
     )
 
 returns-2 : tie.Need-returns-2 Inv-loop μ-loop
@@ -102,10 +105,10 @@ read-floats-spec =
     blank-requires
     loop-holds
     word-at-requires
-    finite-word-requires
+    float-of-requires
+    is-finite-requires
     refuse-requires
     returns
-    float-from-bits-with-float
     with-float-requires
     add-k
     loop-less

@@ -28,7 +28,7 @@ unfolding writeOf
 returns-3 c = rw (finite-floats (c .before .before .before), le-leb _ _ (c .before .if2 .left), ne-eqb _ _ (c .if3 .taken))
 
 put-record-requires : tie.Need-put-record-requires
-put-record-requires c κs = (c .before .if3 .left, finite-floats (c .before .before .before .before), c .before .before .if2 .left)
+put-record-requires c κs = (c .before .if3 .left, c .before .before .if2 .left)
 
 same-length : tie.Need-same-length
 same-length c = search needs

@@ -3,10 +3,8 @@ use mathlib.Core.Path.{_≡_, refl, _∙_}
 use Prim.Native.Nat.{_-_, _*_, _≤_}
 use native.Mathlib.Omega.{arith}
 use native.Mathlib.Numerals.{add-one}
-use lib.ListN.{length, getD}
+use lib.ListN.{length}
 use lib.Dec.{lit≤}
-use lib.Ieee.{binary32, toBits, nan}
-use Rattle.station.proofs.Finite.{finite-at, finite-value}
 use Rattle.text.specs.Writing.{Wrote}
 use Rattle.text.specs.Lines.{lines}
 use Rattle.text.proofs.Overlay.{then, overlaid-none}
@@ -30,15 +28,11 @@ mul-x c = omega arith
 shared-slice-read-x : tie.Need-shared-slice-read-x Inv-loop μ-loop
 shared-slice-read-x c = omega arith
 
-float-to-bits-bits : tie.Need-float-to-bits-bits Inv-loop μ-loop
-float-to-bits-bits c =
-    let head = c .before .before in
-    let start = head .before .before .before in
-    let row = start .args .row .now in
-    finite-value (getD row (head .loop .k) nan) (finite-at row (head .loop .k) (omega arith) (start .pre .1))
-
 cast-push-line : tie.Need-cast-push-line Inv-loop μ-loop
 cast-push-line c = omega arith
+
+bits-of-requires : tie.Need-bits-of-requires Inv-loop μ-loop
+bits-of-requires c κs = tt
 
 kind-of-requires : tie.Need-kind-of-requires Inv-loop μ-loop
 kind-of-requires c κs = tt
@@ -57,14 +51,13 @@ unfolding lines
 loop-again c =
     let pushed = c .before .before in
     let kind = pushed .before in
-    let head = kind .before .before .before .before in
-    let start = head .before .before .before in
-    let x = getD (start .args .row .now) (head .loop .k) nan in
-    let n = line-length (head .loop .k) (toBits binary32 x) (kind .kind-of .result) in (
+    let bits = kind .before in
+    let head = bits .before .before .before .before in
+    let n = line-length (head .loop .k) (bits .bits-of .result) (kind .kind-of .result) in (
       omega arith,
       omega arith,
       pushed .push-line .kept .0 ∙ head .loop .inv .2,
-      rw (add-one, ← kind .kind-of .ensures) (then (head .loop .inv .3) (pushed .push-line .ensures) (omega arith)),
+      rw (add-one, ← kind .kind-of .ensures, ← bits .bits-of .ensures) (then (head .loop .inv .3) (pushed .push-line .ensures) (omega arith)),
     )
 
 same-length : tie.Need-same-length Inv-loop μ-loop
@@ -82,8 +75,8 @@ put-lines-spec =
     loop-holds
     mul-x
     shared-slice-read-x
-    float-to-bits-bits
     cast-push-line
+    bits-of-requires
     kind-of-requires
     push-line-requires
     add-k

@@ -1,9 +1,9 @@
--- `station::float_of` meets its contract. Assumes nothing.
+-- `station::float_at` meets its contract. Assumes nothing.
 use native.Mathlib.Omega.{arith}
 use Rattle.station.proofs.Arrays.{in-parm, in-gainmax, in-gainmaxb}
 use borrow.Author.Needs.{needs}
-use Rattle.station.proofs.floats.float_of.Statement.{statement}
-use Rattle.station.proofs.floats.float_of.Tie as tie
+use Rattle.station.proofs.floats.float_at.Statement.{statement}
+use Rattle.station.proofs.floats.float_at.Tie as tie
 
 mul-result : tie.Need-mul-result
 mul-result c = search needs
@@ -32,8 +32,8 @@ element-copy-out-result-3 c = search needs
 returns-3 : tie.Need-returns-3
 returns-3 c = in-gainmaxb (c .before .before .before .args .t1) (search needs) (search needs) (c .before .before .before .args .k) (omega arith)
 
-pub float-of-spec : {M : Type 1} → statement M
-float-of-spec =
+pub float-at-spec : {M : Type 1} → statement M
+float-at-spec =
     tie.close
     (tie.spec
     mul-result
