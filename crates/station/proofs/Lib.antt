@@ -1,0 +1,7 @@
+-- Laws that several proofs cite: one file for each subject.
+pub mod Digits
+pub mod Finite
+pub mod Arrays
+pub mod Unpacking
+pub mod Packing
+pub mod RoundTrip

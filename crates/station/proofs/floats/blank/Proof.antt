@@ -1,0 +1,12 @@
+-- `station::floats::blank` meets its contract. Assumes nothing.
+use mathlib.Core.Path.{refl}
+use Rattle.station.specs.Record.{zeros}
+use Rattle.station.proofs.floats.blank.Statement.{statement}
+use Rattle.station.proofs.floats.blank.Tie as tie
+
+returns : tie.Need-returns
+unfolding zeros
+returns c = refl
+
+pub blank-spec : {M : Type 1} → statement M
+blank-spec = tie.close (tie.spec returns)

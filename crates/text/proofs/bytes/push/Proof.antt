@@ -1,0 +1,22 @@
+-- `text::bytes::push` meets its contract. Assumes nothing.
+use mathlib.Core.Path.{refl}
+use native.Mathlib.Omega.{arith}
+use Rattle.text.proofs.Overlay.{overlaid-one}
+use borrow.Author.Needs.{needs}
+use Rattle.text.proofs.bytes.push.Statement.{statement}
+use Rattle.text.proofs.bytes.push.Tie as tie
+
+slice-write-out : tie.Need-slice-write-out
+slice-write-out c = search needs
+
+add-result : tie.Need-add-result
+add-result c = search needs
+
+same-length : tie.Need-same-length
+same-length c = search needs
+
+returns : tie.Need-returns
+returns c = record { after = refl; bytes = overlaid-one (c .args .out .now) (c .args .at) (c .args .b) (omega arith) }
+
+pub push-spec : {M : Type 1} → statement M
+push-spec = tie.close (tie.spec slice-write-out add-result same-length returns)

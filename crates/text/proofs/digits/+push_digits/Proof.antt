@@ -1,0 +1,155 @@
+use mathlib.Core.Path.{_≡_, sym, ap, _∙_}
+use native.Mathlib.Nat.{add-zero, lt-of-lt-of-le, mod-lt}
+use native.Mathlib.Omega.{arith}
+use mathlib.Core.List.{[], _∷_, _++_, map, map-append}
+use Rattle.station.specs.Digits.{digits}
+use Rattle.station.proofs.Digits.{digits-none, digits-last}
+use Rattle.text.specs.Numbers.{character}
+use Rattle.text.proofs.Overlay.{overlaid-none, then, digits-length}
+use Prim.Native.Nat.{ℕ, suc, _+_, _-_, _/_, _%_, _<_}
+use borrow.Fn.Kinds.{In}
+use borrow.Fn.PlainCycle.{Measures, is, falls, and}
+use Rattle.text.proofs.digits.push_digits.Reads as push-digits
+use Rattle.text.proofs.digits.push_digits.Kinds as push-digits-kinds
+use Rattle.text.proofs.digits.+push_digits.Lts-push_digits as push-digits-lts
+use Rattle.text.proofs.digits.digit.Reads as digit-reads
+use Rattle.text.proofs.bytes.push.Reads as push-reads
+use Rattle.text.proofs.digits.+push_digits.{statement}
+use Rattle.text.proofs.digits.+push_digits.Tie.{close}
+
+abbrev μ-push-digits : Measures 1 push-digits-kinds.ps ℕ
+μ-push-digits κs a = a .1 .1 .1 .1 .0
+
+abbrev push-digits-at : ℕ → In 1 push-digits-kinds.ps
+push-digits-at t =
+    and 1 push-digits-kinds.ps (is 1 push-digits-kinds.ps μ-push-digits t) push-digits.Pre
+
+abbrev push-digits-below : ℕ → In 1 push-digits-kinds.ps
+push-digits-below t =
+    and 1 push-digits-kinds.ps (falls 1 push-digits-kinds.ps _<_ μ-push-digits t) push-digits.Pre
+
+push-digits-returns : (t : ℕ) → push-digits-lts.Need-returns (
+  push-digits-below t,
+  push-digits.Post,
+  digit-reads.Asked,
+  digit-reads.Learnt,
+  push-reads.Asked,
+  push-reads.Learnt,
+) (push-digits-at t) push-digits.Post
+push-digits-returns t c =
+    let a = c .before .before .args in
+    let e : a .k ≡ 0 = c .if1 .taken in
+    record { after = rw (e, digits-none) (sym (add-zero (a .at))); bytes = rw (e, digits-none) (overlaid-none (a .out .now) (a .at)) }
+
+push-digits-div-push-digits : (t : ℕ) → push-digits-lts.Need-div-push-digits (
+  push-digits-below t,
+  push-digits.Post,
+  digit-reads.Asked,
+  digit-reads.Learnt,
+  push-reads.Asked,
+  push-reads.Learnt,
+) (push-digits-at t) push-digits.Post
+push-digits-div-push-digits t c = omega arith
+
+push-digits-sub-push-digits : (t : ℕ) → push-digits-lts.Need-sub-push-digits (
+  push-digits-below t,
+  push-digits.Post,
+  digit-reads.Asked,
+  digit-reads.Learnt,
+  push-reads.Asked,
+  push-reads.Learnt,
+) (push-digits-at t) push-digits.Post
+push-digits-sub-push-digits t c = omega arith
+
+push-digits-push-digits-requires : (t : ℕ) → push-digits-lts.Need-push-digits-requires (
+  push-digits-below t,
+  push-digits.Post,
+  digit-reads.Asked,
+  digit-reads.Learnt,
+  push-reads.Asked,
+  push-reads.Learnt,
+) (push-digits-at t) push-digits.Post
+push-digits-push-digits-requires t c κs = (omega arith, (omega arith, c .before .before .before .pre .1 .1, c .before .before .before .pre .1 .2))
+
+push-digits-rem-digit : (t : ℕ) → push-digits-lts.Need-rem-digit (
+  push-digits-below t,
+  push-digits.Post,
+  digit-reads.Asked,
+  digit-reads.Learnt,
+  push-reads.Asked,
+  push-reads.Learnt,
+) (push-digits-at t) push-digits.Post
+push-digits-rem-digit t c = omega arith
+
+push-digits-digit-requires : (t : ℕ) → push-digits-lts.Need-digit-requires (
+  push-digits-below t,
+  push-digits.Post,
+  digit-reads.Asked,
+  digit-reads.Learnt,
+  push-reads.Asked,
+  push-reads.Learnt,
+) (push-digits-at t) push-digits.Post
+push-digits-digit-requires t c κs =
+    let start = c .before .before .before .before .before .before .before in
+    lt-of-lt-of-le (mod-lt (start .args .n) (start .pre .1 .1)) (start .pre .1 .2)
+
+push-digits-push-requires : (t : ℕ) → push-digits-lts.Need-push-requires (
+  push-digits-below t,
+  push-digits.Post,
+  digit-reads.Asked,
+  digit-reads.Learnt,
+  push-reads.Asked,
+  push-reads.Learnt,
+) (push-digits-at t) push-digits.Post
+push-digits-push-requires t c κs = omega (arith, c .before .before .before .before .push-digits .ensures .after, digits-length (c .before .before .before .before .before .before .before .before .args .base) (c .before .before .before .before .before .before .before .before .args .k - 1) (c .before .before .before .before .before .before .before .before .args .n / c .before .before .before .before .before .before .before .before .args .base), c .before .before .before .before .push-digits .kept .0)
+
+push-digits-same-length : (t : ℕ) → push-digits-lts.Need-same-length (
+  push-digits-below t,
+  push-digits.Post,
+  digit-reads.Asked,
+  digit-reads.Learnt,
+  push-reads.Asked,
+  push-reads.Learnt,
+) (push-digits-at t) push-digits.Post
+push-digits-same-length t c = c .before .before .push .kept .0 ∙ c .before .before .before .before .before .before .before .push-digits .kept .0
+
+push-digits-returns-2 : (t : ℕ) → push-digits-lts.Need-returns-2 (
+  push-digits-below t,
+  push-digits.Post,
+  digit-reads.Asked,
+  digit-reads.Learnt,
+  push-reads.Asked,
+  push-reads.Learnt,
+) (push-digits-at t) push-digits.Post
+push-digits-returns-2 t c =
+    let first = c .before .before .before .before .before .before .before in
+    let start = first .before .before .before .before in
+    let a = start .args in
+    let l = a .out .now in
+    let s = map character (digits (a .base) (a .k - 1) (a .n / a .base)) in
+    let e : a .k ≡ suc (a .k - 1) = omega (arith, first .before .before .if1 .left) in
+    let all : map character (digits (a .base) (a .k) (a .n)) ≡ s ++ (character (a .n % a .base) ∷ []) =
+    ap (λ (i : ℕ). map character (digits (a .base) i (a .n))) e ∙ ap (map character) (digits-last (a .base) (a .k - 1) (a .n)) ∙ map-append character (digits (a .base) (a .k - 1) (a .n / a .base)) (a .n % a .base ∷ []) in
+    rw (all, ← c .before .before .before .digit .ensures)
+    (then (first .push-digits .ensures) (c .before .before .push .ensures) (omega (arith, first .push-digits .ensures .after, digits-length (a .base) (a .k - 1) (a .n / a .base), start .pre .1 .0)))
+
+pub +push-digits-spec : {M : Type 1} → statement M
++push-digits-spec = close μ-push-digits λ t. push-digits-lts.spec (
+  push-digits-below t,
+  push-digits.Post,
+  digit-reads.Asked,
+  digit-reads.Learnt,
+  push-reads.Asked,
+  push-reads.Learnt,
+)
+    (push-digits-at t)
+    push-digits.Post
+    (push-digits-returns t)
+    (push-digits-div-push-digits t)
+    (push-digits-sub-push-digits t)
+    (push-digits-push-digits-requires t)
+    (push-digits-rem-digit t)
+    (push-digits-digit-requires t)
+    (push-digits-push-requires t)
+    (push-digits-same-length t)
+    (push-digits-returns-2 t)
