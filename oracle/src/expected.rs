@@ -63,6 +63,19 @@ pub struct Gains {
 }
 
 impl Gains {
+    /// From the 58 floats in their order.
+    pub fn new(mode: u32, floats: &[f32; 58]) -> Self {
+        let at = |k: usize| floats[k];
+        Gains {
+            mode,
+            parm: std::array::from_fn(at),
+            gainmax: std::array::from_fn(|row| std::array::from_fn(|column| at(20 + 3 * row + column))),
+            gainmaxb: std::array::from_fn(|k| at(26 + k)),
+            mhz: at(56),
+            design: at(57),
+        }
+    }
+
     /// The 58 floats in their order.
     pub fn floats(&self) -> Vec<f32> {
         let rows = self.gainmax.iter().flatten();

@@ -4,7 +4,10 @@
 pub mod expected;
 pub mod leaf;
 pub mod plain;
+#[cfg(source)]
+pub mod plate;
 pub mod random;
+pub mod record;
 #[cfg(source)]
 pub mod reference;
 pub mod rules;

@@ -1,6 +1,7 @@
 //! What `service` exports, in Rust over `expected`: the same arguments, the same words out, lent buffers left alone on a refusal.
 //! A slice of the wrong length is refused as 8 before anything else, except a lent table and row, whose place is document 01's.
 use crate::expected::{self, Gains, Refusal, SPACE, TABLE};
+use crate::{plate as program, record};
 
 /// The refusal's number, or 0.
 fn code(answer: Result<(), Refusal>) -> u32 {
@@ -11,22 +12,10 @@ fn parm_of(floats: &[f32]) -> Result<&[f32; 20], Refusal> {
     floats.try_into().map_err(|_| SPACE)
 }
 
-fn gains_of(mode: u32, floats: &[f32]) -> Result<Gains, Refusal> {
-    let all: &[f32; 58] = floats.try_into().map_err(|_| SPACE)?;
-    let at = |k: usize| all[k];
-    Ok(Gains {
-        mode,
-        parm: std::array::from_fn(at),
-        gainmax: std::array::from_fn(|row| std::array::from_fn(|column| at(20 + 3 * row + column))),
-        gainmaxb: std::array::from_fn(|k| at(26 + k)),
-        mhz: at(56),
-        design: at(57),
-    })
-}
-
 fn try_maxgain(mode: u32, floats: &[f32], out: &mut [u32]) -> Result<(), Refusal> {
     let out: &mut [u32; 21] = out.try_into().map_err(|_| SPACE)?;
-    let (gain, parm) = expected::maxgain(&gains_of(mode, floats)?)?;
+    let floats: &[f32; 58] = floats.try_into().map_err(|_| SPACE)?;
+    let (gain, parm) = expected::maxgain(&Gains::new(mode, floats))?;
     out[0] = gain.to_bits();
     out[1..].copy_from_slice(&parm.map(f32::to_bits));
     Ok(())
@@ -73,4 +62,28 @@ fn try_row(parm: &[f32], table: &mut [f32], giso: f32, elevation: f32, row: &mut
 
 pub fn row(parm: &[f32], table: &mut [f32], giso: f32, elevation: f32, row: &mut [f32], out: &mut [u32]) -> u32 {
     code(try_row(parm, table, giso, elevation, row, out))
+}
+
+fn try_read(bytes: &[u8], words: &mut [u32]) -> Result<(), Refusal> {
+    let words: &mut [u32; record::WORDS] = words.try_into().map_err(|_| SPACE)?;
+    *words = record::read(bytes)?;
+    Ok(())
+}
+
+pub fn read(bytes: &[u8], words: &mut [u32]) -> u32 {
+    code(try_read(bytes, words))
+}
+
+pub fn write(words: &[u32], bytes: &mut [u8]) -> u32 {
+    code(words.try_into().map_err(|_| SPACE).and_then(|words| record::write(words, bytes)))
+}
+
+/// The program's output and its length; nothing where the room is under 8,192 bytes.
+pub fn plate(input: &[u8], text: &mut [u8]) -> usize {
+    if text.len() < 8192 {
+        return 0;
+    }
+    let output = program::output(input);
+    text[..output.len()].copy_from_slice(output.as_bytes());
+    output.len()
 }

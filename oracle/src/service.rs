@@ -31,6 +31,12 @@ mod raw {
             out: *mut u32,
             out_len: usize,
         ) -> u32;
+        #[cfg(feature = "record")]
+        pub fn hf_read(record: *const u8, record_len: usize, words: *mut u32, words_len: usize) -> u32;
+        #[cfg(feature = "record")]
+        pub fn hf_write(words: *const u32, words_len: usize, record: *mut u8, record_len: usize) -> u32;
+        #[cfg(feature = "plate")]
+        pub fn hf_plate(input: *const u8, input_len: usize, text: *mut u8, text_len: usize) -> usize;
     }
 }
 
@@ -65,4 +71,22 @@ pub fn row(parm: &[f32], table: &mut [f32], giso: f32, elevation: f32, row: &mut
     let (out_len, out) = (out.len(), out.as_mut_ptr());
     // SAFETY: as above.
     unsafe { raw::hf_row(parm.as_ptr(), parm.len(), table, table_len, giso, elevation, row, row_len, out, out_len) }
+}
+
+#[cfg(feature = "record")]
+pub fn read(record: &[u8], words: &mut [u32]) -> u32 {
+    // SAFETY: as above.
+    unsafe { raw::hf_read(record.as_ptr(), record.len(), words.as_mut_ptr(), words.len()) }
+}
+
+#[cfg(feature = "record")]
+pub fn write(words: &[u32], record: &mut [u8]) -> u32 {
+    // SAFETY: as above.
+    unsafe { raw::hf_write(words.as_ptr(), words.len(), record.as_mut_ptr(), record.len()) }
+}
+
+#[cfg(feature = "plate")]
+pub fn plate(input: &[u8], text: &mut [u8]) -> usize {
+    // SAFETY: as above.
+    unsafe { raw::hf_plate(input.as_ptr(), input.len(), text.as_mut_ptr(), text.len()) }
 }

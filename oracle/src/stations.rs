@@ -11,7 +11,7 @@ const ENDS: [f32; 24] = [
 const BROKEN: [f32; 3] = [f32::NAN, f32::INFINITY, f32::NEG_INFINITY];
 
 /// A finite float of any exponent.
-fn any_finite(random: &mut Random) -> f32 {
+pub fn finite(random: &mut Random) -> f32 {
     let bits = random.bits();
     f32::from_bits(if bits >> 23 & 255 == 255 { bits & 0x807f_ffff } else { bits })
 }
@@ -28,7 +28,7 @@ pub fn near_end(random: &mut Random) -> f32 {
 pub fn odd(random: &mut Random) -> f32 {
     match random.below(12) {
         0 => random.pick(&BROKEN),
-        1 | 2 => any_finite(random),
+        1 | 2 => finite(random),
         3 | 4 => random.between(-100.0, 400.0),
         5 => random.between(-4.0, 4.0),
         _ => near_end(random),

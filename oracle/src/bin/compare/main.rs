@@ -1,7 +1,7 @@
 //! Compares the proved library with the oracle, call by call. The last line counts the comparisons; the status is 0 only where none
 //! failed.
 //! usage: compare [CALL | CALL=CASES ..]     all calls, each with the gate's number of cases
-#![cfg_attr(not(all(source, feature = "maxgain")), allow(dead_code))]
+#![cfg_attr(not(all(source, feature = "plate")), allow(dead_code))]
 #[cfg(source)]
 mod antenna_edges;
 #[cfg(source)]
@@ -14,6 +14,10 @@ mod gains;
 mod leaves;
 #[cfg(all(source, feature = "maxgain"))]
 mod maxgain;
+#[cfg(all(source, feature = "plate"))]
+mod plates;
+#[cfg(all(source, feature = "record"))]
+mod records;
 mod report;
 #[cfg(all(source, feature = "row"))]
 mod rows;
@@ -37,6 +41,10 @@ const CALLS: &[Call] = &[
     ("gains", 100_000, gains::compare),
     #[cfg(all(source, feature = "row"))]
     ("row", 10_000, rows::compare),
+    #[cfg(all(source, feature = "record"))]
+    ("record", 300_000, records::compare),
+    #[cfg(all(source, feature = "plate"))]
+    ("plate", 20_000, plates::compare),
 ];
 
 /// A word of the command line: a call, with its number of cases or the gate's.

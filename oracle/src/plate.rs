@@ -1,0 +1,42 @@
+//! The program `plate` of document 01: a record and three floats in, 360 lines or one refusal out.
+use crate::expected::{self, Gain, Gains, Refusal, ROW, TABLE};
+use crate::record;
+
+const INPUT: usize = record::BYTES + 12;
+
+fn float_at(bytes: &[u8], from: usize) -> f32 {
+    f32::from_be_bytes(bytes[from..from + 4].try_into().unwrap())
+}
+
+/// What the record holds, with the two frequencies.
+fn gains_of(words: &[u32; record::WORDS], input: &[u8]) -> Gains {
+    let frequencies = [225, 229].map(|from| float_at(input, from));
+    Gains::new(words[0], &std::array::from_fn(|k| if k < 56 { f32::from_bits(words[1 + k]) } else { frequencies[k - 56] }))
+}
+
+fn line(azimuth: usize, gain: Gain) -> String {
+    let (number, kind) = match gain {
+        Gain::Level(x) => (x, "level"),
+        Gain::Floor(x) => (x, "floor"),
+        Gain::Silence(x) => (x, "silence"),
+        Gain::Refused(_) => unreachable!("a row exists"),
+    };
+    format!("{azimuth} {:08X} {kind}\n", number.to_bits())
+}
+
+/// Reader, maximum gain, set-up, row: the first that refuses gives the number.
+fn lines(input: &[u8]) -> Result<String, Refusal> {
+    if input.len() != INPUT {
+        return Err(1);
+    }
+    let words = record::read(&input[..record::BYTES])?;
+    let (giso, parm) = expected::maxgain(&gains_of(&words, input))?;
+    let antenna = expected::set_up(&parm, TABLE)?;
+    let elevation = float_at(input, 233);
+    expected::row(&antenna, elevation, giso, ROW)?;
+    Ok((0..ROW).map(|v| line(v, expected::gain(&antenna, elevation, v as f32, giso))).collect())
+}
+
+pub fn output(input: &[u8]) -> String {
+    lines(input).unwrap_or_else(|number| format!("refused {number}\n"))
+}
