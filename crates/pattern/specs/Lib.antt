@@ -1,0 +1,9 @@
+-- The definitions that contracts cite: one file for each subject.
+pub mod Azimuth
+pub mod Rows
+pub mod Dipoles
+pub mod DipoleParts
+pub mod Boom
+pub mod BoomParts
+pub mod Gainrel
+pub mod Mirror
