@@ -121,7 +121,10 @@ pub fn gain_3(k: Constants, w: Factors, d: Direction) -> f32
 {
     let z1 = dipole_factor(k.pfr, k.cpfr, d);
     let z2 = reflector_factor(k, d);
-    let z3 = row_factor(slew(k.pfr * d.b0 * 2.0, k.sl, d), il_count_of(k.r2 / 2.0 - 1.0));
+    let z3 = row_factor(
+        slew(k.pfr * d.b0 * 2.0, k.sl, d),
+        il_count_of(k.r2 / 2.0 - 1.0),
+    );
     let z4 = ground_factor(w, d);
     z1 * z2 * z3 * z4
 }
