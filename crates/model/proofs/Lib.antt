@@ -1,4 +1,6 @@
 pub mod WholeNumbers
 pub mod Naturals
+pub mod ActiveElements
+pub mod Edges
 pub mod Negation
 pub mod Opposites
