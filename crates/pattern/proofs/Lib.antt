@@ -1,5 +1,7 @@
 -- What the proofs share, and the laws that crates above cite.
 mod Degrees
 mod Cells
-mod ActiveElements
 mod Parts
+mod RhombicByParts
+mod CrossedByParts
+mod Untyped

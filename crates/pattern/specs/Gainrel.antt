@@ -1,6 +1,6 @@
 -- `gainrel`: the relative gain at elevation u and azimuth v, in degrees. Definitions only.
 use Prim.Native.Nat.{ℕ}
-use mathlib.Core.Bool.{Bool, cond}
+use mathlib.Core.Bool.{Bool, _||_, cond}
 use mathlib.Core.List.{List}
 use lib.Dec.{eqb}
 use lib.ListN.{getD}
@@ -14,6 +14,8 @@ use Rattle.model.specs.declared.record.Model.{Model}
 use Rattle.pattern.specs.Azimuth.{quadrantOf, directionOf, behindScreen}
 use Rattle.pattern.specs.Dipoles.{gain1, gain2, gain3, gain4}
 use Rattle.pattern.specs.Boom.{gain5, gain6}
+use Rattle.pattern.specs.Rhombic.{gain7}
+use Rattle.pattern.specs.Crossed.{gain89}
 
 -- w3[iu] to w10[iu]
 unfoldable pub factorsAt : Ground → ℕ → Factors
@@ -39,7 +41,9 @@ gainIn m table iu d behind =
     (cond (eqb (m .iant) 4) (gain4 k w d)
     (cond (eqb (m .iant) 5) (gain5 k e table iu d)
     (cond (eqb (m .iant) 6) (gain6 k e table iu d)
-    +0)))))
+    (cond (eqb (m .iant) 7) (gain7 k w d)
+    (cond (eqb (m .iant) 8 || eqb (m .iant) 9) (gain89 (m .iant) k w d)
+    +0)))))))
 
 unfoldable pub gainRel : Model → List Float → Float → Float → Float
 gainRel m table u v =

@@ -42,6 +42,9 @@ pub fn gainrel(m: Model, table: &[f32], u: f32, v: f32) -> f32
             let e = m.elements;
             crate::boom::gain_6(k, e, table, iu, d)
         }
+        7 => crate::rhombic::gain_7(k, w, d),
+        8 => crate::crossed::gain_89(8, k, w, d),
+        9 => crate::crossed::gain_89(9, k, w, d),
         _ => 0.0,
     }
 }

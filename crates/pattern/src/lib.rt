@@ -2,5 +2,8 @@
 // and the choice between them.
 pub mod azimuth;
 pub mod boom;
+pub mod complex;
+pub mod crossed;
 pub mod dipoles;
 pub mod gainrel;
+pub mod rhombic;

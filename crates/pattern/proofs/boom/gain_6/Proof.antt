@@ -1,9 +1,9 @@
 -- `pattern::boom::gain_6` meets its contract.
-use Rattle.pattern.proofs.ActiveElements.{element-most}
+use Rattle.model.proofs.ActiveElements.{active-below}
 use Rattle.pattern.proofs.Parts.{upright-parts}
 use lib.ListN.{getD}
 use mathlib.Core.Path.{_≡_, refl, sym}
-use Prim.Native.Nat.{_+_, _-_, _≤_}
+use Prim.Native.Nat.{_+_, _-_, _≤_, _<_}
 use native.Mathlib.Numerals.{add-one}
 use native.Mathlib.Omega.{arith}
 use borrow.Author.Needs.{needs}
@@ -17,8 +17,8 @@ Inv-loop k table iu d e nat gamma s₀ n₀ s n = (s ≡ uprightTo k e table iu 
 abbrev μ-loop : tie.MeasureT-loop
 μ-loop k table iu d e nat gamma s₀ n₀ s n = nat - n
 
-element : (c : tie.After-i Inv-loop μ-loop) → getD (c .before .before .before .before .before .args .t2 .iek) (c .before .before .loop .n + 1) 0 ≤ 30
-element c = element-most _ _ (c .before .before .before .before .before .pre .1) (c .before .before .loop .n) (omega arith)
+element : (c : tie.After-i Inv-loop μ-loop) → getD (c .before .before .before .before .before .args .t2 .iek) (c .before .before .loop .n + 1) 0 < 31
+element c = active-below _ _ (c .before .before .loop .n) (c .before .before .before .before .before .pre .1) (omega arith)
 
 gamma-of-requires : tie.Need-gamma-of-requires Inv-loop μ-loop
 gamma-of-requires c κs = search needs
