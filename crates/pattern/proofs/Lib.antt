@@ -5,3 +5,4 @@ mod Parts
 mod RhombicByParts
 mod CrossedByParts
 mod Untyped
+pub mod Mirror
