@@ -6,3 +6,7 @@ mod RhombicByParts
 mod CrossedByParts
 mod Untyped
 pub mod Mirror
+pub mod Fold
+pub mod GainrelMirror
+pub mod TableStart
+pub mod Slew
