@@ -1,0 +1,2 @@
+// The curtain antenna: the source's module `curtain`, from the twenty parameters to the answer.
+pub mod pattern;
