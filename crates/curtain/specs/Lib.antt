@@ -1,3 +1,4 @@
 -- The definitions that contracts cite: one file for each subject.
 pub mod Literals
 pub mod Pattern
+pub mod Integral
