@@ -1,4 +1,6 @@
 -- The definitions that contracts cite: one file for each subject.
 pub mod Literals
+pub mod Excitation
+pub mod Azimuth
 pub mod Pattern
 pub mod Integral

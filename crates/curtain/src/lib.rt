@@ -1,3 +1,5 @@
 // The curtain antenna: the source's module `curtain`, from the twenty parameters to the answer.
+pub mod azimuth;
+pub mod excitation;
 pub mod integral;
 pub mod pattern;

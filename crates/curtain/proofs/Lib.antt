@@ -1,0 +1,2 @@
+-- What the proofs share, and the laws that crates above cite.
+mod Signed
