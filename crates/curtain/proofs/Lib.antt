@@ -1,2 +1,3 @@
 -- What the proofs share, and the laws that crates above cite.
 mod Signed
+mod Counted
