@@ -5,3 +5,5 @@ pub mod Pattrn0
 pub mod Azimuth
 pub mod Pattern
 pub mod Integral
+pub mod Level
+pub mod Answers
