@@ -1,2 +1,4 @@
 pub mod WholeNumbers
 pub mod Naturals
+pub mod Negation
+pub mod Opposites
