@@ -3,3 +3,4 @@ mod Signed
 mod Counted
 pub mod Mirror
 pub mod Unslewed
+pub mod Edges

@@ -7,9 +7,8 @@ use lib.Ieee.{Float, nan, inf, fin, binary32, neg, lt, ofBits}
 use Rattle.numeric.specs.Float.{mag, copySign}
 use Rattle.numeric.specs.Sine.{sine, cosine}
 use Rattle.numeric.proofs.Laws.{sine-odd, cosine-even}
-use Rattle.numeric.proofs.Edges.{sin-minus-zero}
-use Rattle.model.specs.Ops.{_⊖_, +0, +0-is}
-use Rattle.model.specs.Literals.{literal}
+use Rattle.numeric.proofs.Edges.{sin-zero}
+use Rattle.model.specs.Ops.{_⊖_, +0-is}
 use Rattle.model.specs.Opposite.{Opposite, negated, zeros}
 use Rattle.model.proofs.Negation.{neg-neg, mag-neg}
 use Rattle.model.proofs.Opposites.{with-neg, add-opposite, sub-opposite, mul-opposite-right, square-same, even-same, odd-opposite}
@@ -20,15 +19,8 @@ use Rattle.curtain.specs.declared.pattern.Curtain.{Curtain}
 
 -- ---- the sine and the cosine of opposite angles
 
-minus-zero : neg (literal 0x80000000) ≡ +0
-unfolding neg ofBits
-minus-zero = refl
-
-pub sine-zero : sine +0 ≡ +0
-sine-zero = ap sine (sym minus-zero) ∙ sine-odd (literal 0x80000000) ∙ ap neg sin-minus-zero ∙ minus-zero
-
 sine-opposite : {x y : Float} → Opposite x y → Opposite (sine x) (sine y)
-sine-opposite = odd-opposite sine sine-odd (ap sine (sym +0-is) ∙ sine-zero ∙ +0-is)
+sine-opposite = odd-opposite sine sine-odd (ap sine (sym +0-is) ∙ sin-zero ∙ +0-is)
 
 cosine-same : {x y : Float} → Opposite x y → cosine x ≡ cosine y
 cosine-same = even-same cosine cosine-even
