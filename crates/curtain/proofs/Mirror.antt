@@ -1,13 +1,12 @@
 -- The curtain's mirror law: without bay phases its pattern is the same at an azimuth and at its negative.
-use mathlib.Core.Path.{_≡_, refl, sym, ap, _∙_}
+use mathlib.Core.Path.{_≡_, refl, sym}
 use mathlib.Core.Bool.{Bool, true, false, cond}
 use Prim.Native.Nat.{ℕ, zero, suc}
 use lib.ListN.{getD}
 use lib.Ieee.{Float, nan, inf, fin, binary32, neg, lt, ofBits}
 use Rattle.numeric.specs.Float.{mag, copySign}
 use Rattle.numeric.specs.Sine.{sine, cosine}
-use Rattle.numeric.proofs.Laws.{sine-odd, cosine-even}
-use Rattle.numeric.proofs.Edges.{sin-zero}
+use Rattle.numeric.proofs.Laws.{sine-odd, sine-zero, cosine-even}
 use Rattle.model.specs.Ops.{_⊖_, +0-is}
 use Rattle.model.specs.Opposite.{Opposite, negated, zeros}
 use Rattle.model.proofs.Negation.{neg-neg, mag-neg}
@@ -20,7 +19,7 @@ use Rattle.curtain.specs.declared.pattern.Curtain.{Curtain}
 -- ---- the sine and the cosine of opposite angles
 
 sine-opposite : {x y : Float} → Opposite x y → Opposite (sine x) (sine y)
-sine-opposite = odd-opposite sine sine-odd (ap sine (sym +0-is) ∙ sin-zero ∙ +0-is)
+sine-opposite = odd-opposite sine sine-odd sine-zero
 
 cosine-same : {x y : Float} → Opposite x y → cosine x ≡ cosine y
 cosine-same = even-same cosine cosine-even
