@@ -13,7 +13,7 @@ use Rattle.model.proofs.Negation.{neg-neg, mag-neg}
 use Rattle.model.proofs.Opposites.{with-neg, add-opposite, sub-opposite, mul-opposite-right, square-same, even-same, odd-opposite}
 use Rattle.curtain.specs.Literals.{PI}
 use Rattle.curtain.specs.Azimuth.{iaz, folded}
-use Rattle.curtain.specs.Pattern.{ef, arg, bayCosines, baySines, bayPower, stackPower, f2, stackSines}
+use Rattle.curtain.specs.Pattern.{efOf, arg, bayCosines, baySines, bayPower, stackPower, f2, stackSines}
 use Rattle.curtain.specs.declared.pattern.Curtain.{Curtain}
 
 -- ---- the sine and the cosine of opposite angles
@@ -50,8 +50,8 @@ module _ (ant : Curtain) (u : Unphased ant) {x y : Float} (o : Opposite x y) whe
   unfolding bayPower
   bayPower-same = rw (bayCosines-same (ant .nbs), square-same binary32 (baySines-opposite (ant .nbs)))
 
-ef-same : (eil ceil : Float) {x y : Float} → Opposite x y → ef eil ceil x ≡ ef eil ceil y
-unfolding ef
+ef-same : (eil ceil : Float) {x y : Float} → Opposite x y → efOf eil ceil x ≡ efOf eil ceil y
+unfolding efOf
 ef-same eil ceil o = rw (square-same binary32 o, cosine-same (mul-opposite-right binary32 eil o))
 
 stackPower-same : (fz stheta cphi : Float) {x y : Float} → Opposite x y → stackPower fz stheta x cphi ≡ stackPower fz stheta y cphi
