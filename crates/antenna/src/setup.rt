@@ -21,7 +21,9 @@ use logperiodic::logparm::LogPeriodic;
 use logperiodic::logparm::logparm;
 use model::angle::jant;
 use model::record::Elements;
+use model::record::Ground;
 use model::record::Model;
+use model::record::Trig;
 ghost use mathlib.Core.Path.{_≡_};
 ghost use mathlib.Core.Bool.{true};
 ghost use lib.ListN.{length};
@@ -133,10 +135,19 @@ fn search_refused(s: Search) -> bool
 fn no_antenna() -> Antenna {
     let l = no_elements();
     let elements = l.elements;
-    let boom = l.boom;
-    let constants = constants_of(0, [0.0; 20], boom);
-    let trig = trigfun();
-    let ground = ground_of(0, constants, trig);
+    let constants = wave_constants([0.0; 20]);
+    let trig = Trig {
+        a: [0.0; 91],
+        b: [0.0; 91],
+    };
+    let ground = Ground {
+        w3: [0.0; 91],
+        w4: [0.0; 91],
+        w5: [0.0; 91],
+        w6: [0.0; 91],
+        w9: [0.0; 91],
+        w10: [0.0; 91],
+    };
     let model = Model {
         iant: 0,
         slewed: false,
