@@ -1,2 +1,4 @@
 -- The definitions that the contracts cite: one file for each module.
+pub mod Lists
 pub mod Leaf
+pub mod Maximum

@@ -1,3 +1,5 @@
-// What Rust and C callers link: the functions of the layers below over plain numbers.
-pub mod bits;
+// What Rust and C callers link: the functions of the layers below over plain numbers and slices.
+mod arrays;
 mod leaf;
+mod maximum;
+mod words;
