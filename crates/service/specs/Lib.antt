@@ -2,3 +2,4 @@
 pub mod Lists
 pub mod Leaf
 pub mod Maximum
+pub mod Record

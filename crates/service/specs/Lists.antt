@@ -2,7 +2,7 @@
 use Prim.Native.Nat.{ℕ, _+_}
 use mathlib.Core.List.{List, _++_, map}
 use lib.ListN.{length, take, drop}
-use lib.Ieee.{Float, binary32, toBits}
+use lib.Ieee.{Float, binary32, ofBits, toBits}
 
 -- the number that a call returns, and what it leaves in the lent buffer
 pub data Left : Type 0 where
@@ -15,6 +15,10 @@ part l at n = take n (drop at l)
 -- floats as words; `toBits` writes a NaN as 7FC00000
 abbrev pub bits : List Float → List ℕ
 bits xs = map (toBits binary32) xs
+
+-- words as floats; `ofBits` reads each NaN pattern as the one NaN
+abbrev pub floats : List ℕ → List Float
+floats ws = map (ofBits binary32) ws
 
 -- words laid over those of a list from `at` on
 abbrev pub laid : List ℕ → ℕ → List ℕ → List ℕ

@@ -2,4 +2,5 @@
 mod arrays;
 mod leaf;
 mod maximum;
+mod record;
 mod words;

@@ -2,6 +2,7 @@
 use mathlib.Core.Path.{_≡_}
 use Prim.Native.Nat.{_≤_, _-_}
 use native.Mathlib.Omega.{arith}
+use lib.Ieee.{nan}
 use Rattle.service.proofs.Copies.{copied, copied-none, copied-more, copied-all}
 use Rattle.service.proofs.arrays.gainmax_at.Statement.{statement}
 use Rattle.service.proofs.arrays.gainmax_at.Tie as tie
@@ -40,7 +41,7 @@ loop-again : tie.Need-loop-again Inv-loop μ-loop
 loop-again c =
     let head = c .before .before in
     let a = head .before .args in
-    (omega arith, copied-more 6 (a .s .now) (a .at) (head .loop .i) (head .loop .out) (head .loop .inv .1) (omega arith) (omega arith))
+    (omega arith, copied-more 6 (a .s .now) (a .at) (head .loop .i) nan (head .loop .out) (head .loop .inv .1) (omega arith) (omega arith))
 
 returns : tie.Need-returns Inv-loop μ-loop
 returns c =
