@@ -2,3 +2,5 @@ pub mod WholeNumbers
 pub mod Naturals
 pub mod ActiveElements
 pub mod Edges
+pub mod Negation
+pub mod Opposites

@@ -6,3 +6,4 @@ pub mod Ranges
 pub mod Angle
 pub mod Counts
 pub mod Table
+pub mod Opposite

@@ -2,4 +2,5 @@
 pub mod Lists
 pub mod Leaf
 pub mod Maximum
+pub mod Curtain
 pub mod Record

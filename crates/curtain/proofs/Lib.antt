@@ -1,0 +1,6 @@
+-- What the proofs share, and the laws that crates above cite.
+mod Signed
+mod Counted
+pub mod Mirror
+pub mod Unslewed
+pub mod Edges

@@ -1,0 +1,59 @@
+// The pattern integrated over the forward hemisphere: the source's `dbltrap`.
+use crate::pattern::Curtain;
+use crate::pattern::elevation_at;
+use crate::pattern::f2;
+use crate::pattern::f2_at;
+ghost use mathlib.Core.Path.{_≡_};
+ghost use Prim.Native.Nat.{_≤_};
+ghost use Rattle.curtain.specs.Integral as Integral;
+
+// Degrees to radians.
+pub const D2R: f32 = 0.01745329251;
+
+// The readings between the ends of a sweep of the azimuth at the elevation t.
+fn readings(ant: Curtain, t: f32) -> f32
+    requires { ⌜ (ant .nbs ≤ 14) × (ant .nostak ≤ 8) ⌝ }
+    ensures { λ r. ⌜ r ≡ Integral.readings ant t 179 ⌝ }
+{
+    let e = elevation_at(ant, t);
+    let mut p = -90.0 * D2R + D2R;
+    let mut pint: f32 = 0.0;
+    for _ in 0..179u32 {
+        pint += f2_at(ant, e, p);
+        p += D2R;
+    }
+    pint
+}
+
+// A sweep of the azimuth: the readings, and half of each end.
+fn sweep(ant: Curtain, t: f32) -> f32
+    requires { ⌜ (ant .nbs ≤ 14) × (ant .nostak ≤ 8) ⌝ }
+    ensures { λ r. ⌜ r ≡ Integral.pint ant t ⌝ }
+{
+    let ends = f2(ant, t, 90.0 * D2R) + f2(ant, t, -90.0 * D2R);
+    readings(ant, t) * D2R + (D2R / 2.0) * ends
+}
+
+// What the elevation t adds: half of it at the two ends.
+fn strip(ant: Curtain, t: f32, end: bool) -> f32
+    requires { ⌜ (ant .nbs ≤ 14) × (ant .nostak ≤ 8) ⌝ }
+    ensures { λ r. ⌜ r ≡ Integral.strip ant t end ⌝ }
+{
+    let pint = sweep(ant, t);
+    let x = D2R * pint * numeric::sine::cos(t);
+    if end { x / 2.0 } else { x }
+}
+
+// Trapezoids over 91 elevations.
+pub fn dbltrap(ant: Curtain) -> f32
+    requires { ⌜ (ant .nbs ≤ 14) × (ant .nostak ≤ 8) ⌝ }
+    ensures { λ r. ⌜ r ≡ Integral.integral ant ⌝ }
+{
+    let mut tint: f32 = 0.0;
+    let mut t: f32 = 0.0;
+    for ip in 0..91u32 {
+        tint += strip(ant, t, (ip == 0) | (ip == 90));
+        t += D2R;
+    }
+    tint
+}
