@@ -1,6 +1,4 @@
 // The elementary functions by number, bits in and bits out.
-use crate::bits::bits_of;
-use crate::bits::float_of;
 use numeric::arctangent::atan;
 use numeric::logarithm::ln;
 use numeric::logarithm::log10;
@@ -8,6 +6,8 @@ use numeric::power::powf;
 use numeric::root::sqrt;
 use numeric::sine::cos;
 use numeric::sine::sin;
+use station::bits::bits_of;
+use station::bits::float_of;
 ghost use mathlib.Core.Path.{_≡_};
 ghost use Rattle.service.specs.Leaf.{leaf, leafOf};
 

@@ -1,3 +1,7 @@
-// What Rust and C callers link: the functions of the layers below over plain numbers.
-pub mod bits;
+// What Rust and C callers link: the functions of the layers below over plain numbers and slices.
+mod arrays;
+mod curtains;
 mod leaf;
+mod maximum;
+mod record;
+mod words;

@@ -1,0 +1,2 @@
+-- Laws that several proofs cite: one file for each subject.
+pub mod Copies

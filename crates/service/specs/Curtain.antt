@@ -1,0 +1,18 @@
+-- `hf_curtain`: the curtain's gain, its answer as one number. Definitions only.
+use Prim.Native.Nat.{ℕ, _+_, _*_, _^_}
+use mathlib.Core.Bool.{cond, not}
+use mathlib.Core.List.{List}
+use lib.ListN.{length}
+use lib.Dec.{eqb}
+use lib.Ieee.{Float, binary32, toBits}
+use Rattle.curtain.specs.Answers.{Answer, level, refused, curtainGain}
+
+-- kind × 2^32 plus a word: kind 0 is a level with its bits, kind 3 a refusal with its number
+unfoldable pub packed : Answer → ℕ
+packed (level x) = toBits binary32 x
+packed (refused n) = 3 * 2 ^ 32 + n
+
+-- 8 for parameters of another number
+unfoldable pub curtainCall : List Float → Float → Float → Float → ℕ
+curtainCall parm azimuth elevation factor =
+    packed (cond (not (eqb (length parm) 20)) (refused 8) (curtainGain parm azimuth elevation factor))

@@ -1,0 +1,31 @@
+// The curtain's gain, its answer as one number.
+use crate::arrays::parm_at;
+use curtain::answer::Gain;
+use station::bits::bits_of;
+ghost use mathlib.Core.Path.{_≡_};
+ghost use Rattle.curtain.specs.Answers.{answerOf};
+ghost use Rattle.service.specs.Curtain.{packed, curtainCall};
+
+// Kind 3, a refusal, in the upper half.
+const REFUSED: u64 = 0x3_0000_0000;
+
+// Kind 0 with a level's bits, or kind 3 with a refusal's number.
+fn pack(g: Gain) -> u64
+    ensures { λ r. ⌜ r ≡ packed (answerOf g) ⌝ }
+{
+    match g {
+        Gain::Level(x) => bits_of(x) as u64,
+        Gain::Refused(n) => REFUSED + n as u64,
+    }
+}
+
+// `curtain::gain` of twenty parameters; 8 first for parameters of another number.
+#[no_mangle]
+pub extern "C" fn hf_curtain(parm: &[f32], azimuth: f32, elevation: f32, factor: f32) -> u64
+    ensures { λ r. ⌜ r ≡ curtainCall (now (parm .entry)) azimuth elevation factor ⌝ }
+{
+    if parm.len() != 20 {
+        return REFUSED + 8;
+    }
+    pack(curtain::gain(parm_at(parm, 0), azimuth, elevation, factor))
+}
