@@ -14,7 +14,7 @@ use Rattle.model.specs.declared.record.Direction.{Direction}
 use Rattle.model.specs.declared.record.Model.{Model}
 use Rattle.pattern.specs.Mirror.{mirror}
 use Rattle.pattern.specs.Azimuth.{deg360, quadrantOf, directionOf, behindScreen}
-use Rattle.pattern.specs.Gainrel.{factorsAt, gainIn, gainRel}
+use Rattle.pattern.specs.Gainrel.{factorsIn, gainIn, gainRel}
 use Rattle.pattern.proofs.Mirror.{gain1-mirror, gain2-mirror, gain3-mirror, gain4-mirror, gain5-mirror, gain6-mirror}
 use Rattle.pattern.proofs.Fold.{Reflected, direction-mirror, screen-mirror, away}
 
@@ -32,7 +32,7 @@ module _ (m : Model) (six : m .iant ≤ 6) (z : m .iant ≤ 4 → m .constants .
   gainIn-mirror iu d behind =
       let i = m .iant in
       let k = m .constants in
-      let w = factorsAt (m .ground) iu in
+      let w = factorsIn (m .ground) iu in
       rw (ne-eqb i 7 (λ (e : i ≡ 7). omega arith), ne-eqb i 8 (λ (e : i ≡ 8). omega arith), ne-eqb i 9 (λ (e : i ≡ 9). omega arith))
       (either i 1 (λ (e : i ≡ 1). gain1-mirror k w d (z (omega arith)) behind)
       (either i 2 (λ (e : i ≡ 2). gain2-mirror k w d (z (omega arith)))

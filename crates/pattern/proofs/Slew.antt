@@ -4,10 +4,11 @@ use lib.IntN.{pos}
 use lib.Ieee.{Float, binary32, mul, ofBits, ofInt, toSigned}
 use Rattle.numeric.specs.Sine.{sine}
 use Rattle.numeric.proofs.Laws.{sine-zero}
-use Rattle.model.specs.Ops.{_⊗_, +0, +0-is}
+use Rattle.model.specs.Ops.{_⊗_, +0, +0-is, zero±}
 use Rattle.model.specs.Literals.{q1}
+use mathlib.Core.Bool.{false}
 
-no-angle : ofInt binary32 (pos 0) ⊗ q1 ≡ +0
+no-angle : ofInt binary32 (pos 0) ⊗ q1 ≡ zero± false
 unfolding ofInt mul ofBits
 no-angle = refl
 

@@ -17,24 +17,21 @@ use Rattle.pattern.specs.Boom.{gain5, gain6}
 use Rattle.pattern.specs.Rhombic.{gain7}
 use Rattle.pattern.specs.Crossed.{gain89}
 
+-- the entries iu of six tables
+abbrev pub factorsAt : List Float → List Float → List Float → List Float → List Float → List Float → ℕ → Factors
+factorsAt w3 w4 w5 w6 w9 w10 iu =
+    record { w3 = getD w3 iu nan; w4 = getD w4 iu nan; w5 = getD w5 iu nan; w6 = getD w6 iu nan; w9 = getD w9 iu nan; w10 = getD w10 iu nan }
+
 -- w3[iu] to w10[iu]
-unfoldable pub factorsAt : Ground → ℕ → Factors
-factorsAt g iu =
-    record {
-      w3 = getD (g .w3) iu nan;
-      w4 = getD (g .w4) iu nan;
-      w5 = getD (g .w5) iu nan;
-      w6 = getD (g .w6) iu nan;
-      w9 = getD (g .w9) iu nan;
-      w10 = getD (g .w10) iu nan;
-    }
+unfoldable pub factorsIn : Ground → ℕ → Factors
+factorsIn g iu = factorsAt (g .w3) (g .w4) (g .w5) (g .w6) (g .w9) (g .w10) iu
 
 -- the `match` on the type; 0 of any other type
 unfoldable pub gainIn : Model → List Float → ℕ → Direction → Bool → Float
 gainIn m table iu d behind =
     let k = m .constants in
     let e = m .elements in
-    let w = factorsAt (m .ground) iu in
+    let w = factorsIn (m .ground) iu in
     cond (eqb (m .iant) 1) (gain1 k w d behind)
     (cond (eqb (m .iant) 2) (gain2 k w d)
     (cond (eqb (m .iant) 3) (gain3 k w d)

@@ -7,7 +7,30 @@ ghost use Prim.Native.Nat.{_≤_};
 ghost use lib.ListN.{length};
 ghost use Rattle.model.specs.Table.{tableSize};
 ghost use Rattle.model.specs.Counts.{countsOk};
-ghost use Rattle.pattern.specs.Gainrel.{gainRel};
+ghost use Rattle.pattern.specs.Gainrel.{factorsAt, gainRel};
+
+// The ground factors at the elevation iu.
+fn factors_at<'a>(
+    w3: &'a [f32; 91],
+    w4: &'a [f32; 91],
+    w5: &'a [f32; 91],
+    w6: &'a [f32; 91],
+    w9: &'a [f32; 91],
+    w10: &'a [f32; 91],
+    iu: usize,
+) -> Factors
+    requires { ⌜ iu ≤ 90 ⌝ }
+    ensures { λ r. ⌜ r ≡ factorsAt (now (w3 .entry)) (now (w4 .entry)) (now (w5 .entry)) (now (w6 .entry)) (now (w9 .entry)) (now (w10 .entry)) iu ⌝ }
+{
+    Factors {
+        w3: w3[iu],
+        w4: w4[iu],
+        w5: w5[iu],
+        w6: w6[iu],
+        w9: w9[iu],
+        w10: w10[iu],
+    }
+}
 
 // By the antenna's type; 0 of a type that is none.
 pub fn gainrel(m: Model, table: &[f32], u: f32, v: f32) -> f32
@@ -16,18 +39,17 @@ pub fn gainrel(m: Model, table: &[f32], u: f32, v: f32) -> f32
 {
     let iu = model::angle::ifix(u);
     let q = crate::azimuth::quadrant_of(v);
-    let trig = m.trig;
-    let d = crate::azimuth::direction_of(&trig.a, &trig.b, iu, q);
+    let d = crate::azimuth::direction_of(&m.trig.a, &m.trig.b, iu, q);
     let k = m.constants;
-    let ground = m.ground;
-    let w = Factors {
-        w3: ground.w3[iu],
-        w4: ground.w4[iu],
-        w5: ground.w5[iu],
-        w6: ground.w6[iu],
-        w9: ground.w9[iu],
-        w10: ground.w10[iu],
-    };
+    let w = factors_at(
+        &m.ground.w3,
+        &m.ground.w4,
+        &m.ground.w5,
+        &m.ground.w6,
+        &m.ground.w9,
+        &m.ground.w10,
+        iu,
+    );
     let iant = m.iant;
     match iant {
         1 => crate::dipoles::gain_1(k, w, d, crate::azimuth::behind_screen(v)),

@@ -1,3 +1,4 @@
+-- `pattern::crossed::gain_89` meets its contract.
 use mathlib.Core.Path.{_∙_}
 use Rattle.pattern.specs.CrossedParts.{crossedGain}
 use Rattle.pattern.proofs.CrossedByParts.{crossed-whole}

@@ -1,3 +1,4 @@
+-- `pattern::rhombic::gain_7` meets its contract.
 use mathlib.Core.Path.{_∙_}
 use Rattle.pattern.specs.RhombicParts.{rhombicGain}
 use Rattle.pattern.proofs.RhombicByParts.{rhombic-whole}
