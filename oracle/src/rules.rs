@@ -170,7 +170,7 @@ pub fn powf(x: f32, y: f32) -> f32 {
 }
 
 /// The largest whole number whose square is at most n, digit by digit.
-pub fn isqrt(n: i128) -> i128 {
+fn isqrt(n: i128) -> i128 {
     let mut root = 0;
     for k in (0..63).rev() {
         let tried = root + (1 << k);

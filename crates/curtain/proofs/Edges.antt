@@ -2,13 +2,14 @@
 use mathlib.Core.Path.{_≡_}
 use mathlib.Core.List.{List, [], _∷_}
 use lib.Ieee.{Float, ofBits, neg, add, sub, mul, div, lt, le, eq, ne, toSigned}
-use Rattle.numeric.proofs.Edges.{sin-zero, cos-zero, sin-small, cos-small}
+use Rattle.numeric.proofs.Edges.{cos-zero, sin-small, cos-small}
+use Rattle.numeric.proofs.Laws.{sine-zero}
 use Rattle.model.specs.Ops.{+0}
 use Rattle.model.specs.Literals.{literal, one, ten}
 use Rattle.model.specs.Ranges.{between, fromTo, finiteTo, allFinite}
 use Rattle.model.specs.Angle.{nintOf}
 use Rattle.curtain.specs.Azimuth.{iaz, folded}
-use Rattle.curtain.specs.Pattern.{ef, bayCosines, baySines, bayPower, stackSines, stackPower, f2}
+use Rattle.curtain.specs.Pattern.{efOf, bayCosines, baySines, bayPower, stackSines, stackPower, f2}
 use Rattle.curtain.specs.Pattrn0.{nostakOf, nbsOf, toMetres, betaOf, lengthsOf, curtainOf}
 use Rattle.curtain.specs.Level.{factorOf, decibels, levelOf}
 use Rattle.curtain.specs.Answers.{level, valueRefused, inBand, bandRefused, aimRefused, graded, curtainGain}
@@ -22,6 +23,6 @@ bare =
 pub bare-curtain :
     (curtainGain bare +0 +0 one ≡ level (neg (literal 0x447a0000)))
     × (curtainGain bare (literal 0x43340000) +0 one ≡ level (neg (literal 0x447f0000)))
-unfolding curtainGain valueRefused allFinite finiteTo bandRefused inBand fromTo aimRefused between graded levelOf factorOf decibels curtainOf nostakOf nbsOf lengthsOf toMetres betaOf iaz folded f2 ef bayPower bayCosines baySines stackSines stackPower nintOf ofBits neg add sub mul div lt le eq ne toSigned
+unfolding curtainGain valueRefused allFinite finiteTo bandRefused inBand fromTo aimRefused between graded levelOf factorOf decibels curtainOf nostakOf nbsOf lengthsOf toMetres betaOf iaz folded f2 efOf bayPower bayCosines baySines stackSines stackPower nintOf ofBits neg add sub mul div lt le eq ne toSigned
 bare-curtain =
-    (rw (sin-zero, cos-zero, sin-zero, cos-zero), rw (sin-zero, cos-zero, sin-small, cos-small, sin-zero, cos-zero))
+    (rw (sine-zero, cos-zero, sine-zero, cos-zero), rw (sine-zero, cos-zero, sin-small, cos-small, sine-zero, cos-zero))

@@ -34,31 +34,31 @@ record Within (n : ℕ) (a : Active) : Type 0 where
   room : length (a .iek) ≡ 36
   named : elementsOk (a .iek) (a .nat) ≡ true
 
-append-within : (n : ℕ) (a : Active) → suc n ≤ 30 → Within n a → Within (suc n) (appended a (suc n))
+append-within : (s : Band) (l : Float) (n : ℕ) (a : Active) → suc n ≤ 30 → Within n a → Within (suc n) (appended a s (suc n) l)
 unfolding appended elementsOk elementOk
-append-within n a b w =
-    let few = w .few in
-    record {
-      few = omega arith;
-      room = length-set (a .iek) (a .nat + 1) (suc n) ∙ w .room;
-      named = rw add-one
-          (simp (
-            entries-kept (a .iek) (suc (a .nat)) (suc n) (a .nat) (omega arith),
-            w .named,
-            getD-set-same (a .iek) (suc (a .nat)) (suc n) 0 (rw (w .room) (omega arith)),
-            le-leb 1 (suc n) (omega arith),
-            le-leb (suc n) 30 b,
-          ));
-    }
-
-either-within : (b : Bool) (n : ℕ) (a : Active) → suc n ≤ 30 → Within n a → Within (suc n) (cond b (appended a (suc n)) a)
-either-within true n a h w = append-within n a h w
-either-within false n a h w = record { few = omega (arith, w .few); room = w .room; named = w .named }
+append-within s l n a b w = go (between l (s .rllow) (s .rlup))
+  where
+    go : (t : Bool) → Within (suc n) (cond t (record { iek = set (a .iek) (a .nat + 1) (suc n); nat = a .nat + 1 }) a)
+    go true =
+        let few = w .few in
+        record {
+          few = omega arith;
+          room = length-set (a .iek) (a .nat + 1) (suc n) ∙ w .room;
+          named = rw add-one
+              (simp (
+                entries-kept (a .iek) (suc (a .nat)) (suc n) (a .nat) (omega arith),
+                w .named,
+                getD-set-same (a .iek) (suc (a .nat)) (suc n) 0 (rw (w .room) (omega arith)),
+                le-leb 1 (suc n) (omega arith),
+                le-leb (suc n) 30 b,
+              ));
+        }
+    go false = record { few = omega (arith, w .few); room = w .room; named = w .named }
 
 within : (s : Band) (rl : List Float) (n : ℕ) → n ≤ 30 → Within n (activeTo s rl n)
 unfolding activeTo elementsOk
 within s rl zero h = record { few = omega arith; room = length-replicate {A = ℕ} 36 0; named = refl }
-within s rl (suc n) h = either-within (between (at rl (suc n)) (s .rllow) (s .rlup)) n (activeTo s rl n) h (within s rl n (omega arith))
+within s rl (suc n) h = append-within s (at rl (suc n)) n (activeTo s rl n) h (within s rl n (omega arith))
 
 module _ (s : Band) (rl : List Float) (n : ℕ) (h : n ≤ 30) where
   pub active-few : activeTo s rl n .nat ≤ n

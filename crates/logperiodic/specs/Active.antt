@@ -33,15 +33,14 @@ band z0 rlambda sigma tau =
     let rl0 = rllow ⊕ n0·7166 ⊗ (rlc ⊖ rllow) in
     record { rllow = rllow; rl0 = rl0; rlc = rlc; rlup = rlup }
 
-unfoldable pub appended : Active → ℕ → Active
-appended a i = record { iek = set (a .iek) (a .nat + 1) i; nat = a .nat + 1 }
+-- the list with element i at its end, where the length l of i lies in the band
+unfoldable pub appended : Active → Band → ℕ → Float → Active
+appended a s i l = cond (between l (s .rllow) (s .rlup)) (record { iek = set (a .iek) (a .nat + 1) i; nat = a .nat + 1 }) a
 
 -- the active ones of elements 1 to n
 unfoldable pub activeTo : Band → List Float → ℕ → Active
 activeTo s rl zero = record { iek = replicate 36 0; nat = 0 }
-activeTo s rl (suc n) =
-    let a = activeTo s rl n in
-    cond (between (at rl (suc n)) (s .rllow) (s .rlup)) (appended a (suc n)) a
+activeTo s rl (suc n) = appended (activeTo s rl n) s (suc n) (at rl (suc n))
 
 -- a list of active elements as refusal 6 asks for it of an antenna record: at most 30, and entries 1 to nat name elements
 pub record Listed (iek : List ℕ) (nat : ℕ) : Type 0 where

@@ -45,14 +45,19 @@ pub fn band_of(z0: f32, rlambda: f32, sigma: f32, tau: f32) -> Band
     }
 }
 
-fn append(a: Active, i: usize) -> Active
+// The list with element i at its end, where the length l of i lies in the band.
+fn append_active(a: Active, s: Band, i: usize, l: f32) -> Active
     requires { ⌜ a .nat < 35 ⌝ }
-    ensures { λ r. ⌜ r ≡ appended a i ⌝ }
+    ensures { λ r. ⌜ r ≡ appended a s i l ⌝ }
 {
-    let nat = a.nat;
-    let mut iek = a.iek;
-    iek[nat + 1] = i;
-    Active { iek, nat: nat + 1 }
+    if is_between(l, s.rllow, s.rlup) {
+        let nat = a.nat + 1;
+        let mut iek = a.iek;
+        iek[nat] = i;
+        Active { iek, nat }
+    } else {
+        a
+    }
 }
 
 // The active ones of elements 1 to nel.
@@ -68,9 +73,7 @@ pub fn active_of(s: Band, rl: [f32; 36], nel: usize) -> Active
     let mut k: usize = 0;
     while k < nel {
         k += 1;
-        if is_between(rl[k], s.rllow, s.rlup) {
-            a = append(a, k);
-        }
+        a = append_active(a, s, k, rl[k]);
     }
     a
 }

@@ -1,4 +1,9 @@
-// `gainrel`'s patterns of types 7, 8 and 9 at one direction.
+// The relative gain of antenna types 1 to 9 at one direction: the azimuth's fold, the patterns,
+// and the choice between them.
+pub mod azimuth;
+pub mod boom;
 pub mod complex;
 pub mod crossed;
+pub mod dipoles;
+pub mod gainrel;
 pub mod rhombic;

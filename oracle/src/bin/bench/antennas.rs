@@ -1,9 +1,8 @@
 //! The antennas' calls beside the source's Rust over the same rules, refusals included on both sides.
 use crate::clock::least;
-use std::hint::black_box;
-
 use oracle::random::Random;
 use oracle::{expected, reference, service, stations};
+use std::hint::black_box;
 
 const STATIONS: usize = 16;
 

@@ -1,8 +1,7 @@
 use mathlib.Core.Path.{_≡_, refl, _∙_}
 use Rattle.logperiodic.specs.Geometry.{alongTo, along}
 use Prim.Native.Nat.{_≤_, _-_}
-use lib.ListN.{length}
-use lib.ListN.{length-set}
+use lib.ListN.{length, length-set}
 use native.Mathlib.Omega.{arith}
 use native.Mathlib.Numerals.{add-one}
 use borrow.Author.Needs.{needs}
@@ -44,7 +43,9 @@ mul-p : tie.Need-mul-p Inv-loop μ-loop
 mul-p c = omega arith
 
 slice-read-p : tie.Need-slice-read-p Inv-loop μ-loop
-slice-read-p c = omega (arith, c .before .before .before .loop .inv .2, length-set (c .before .before .before .before .before .args .p .now) 1 (c .before .before .before .before .before .args .start))
+slice-read-p c =
+    let given = c .before .before .before .before .before .args in
+    omega (arith, length-set (given .p .now) 1 (given .start))
 
 add-p : tie.Need-add-p Inv-loop μ-loop
 add-p c = omega arith
@@ -53,7 +54,9 @@ mul-p-2 : tie.Need-mul-p-2 Inv-loop μ-loop
 mul-p-2 c = omega arith
 
 slice-write-p-2 : tie.Need-slice-write-p-2 Inv-loop μ-loop
-slice-write-p-2 c = omega (arith, c .before .before .before .loop .inv .2, length-set (c .before .before .before .before .before .args .p .now) 1 (c .before .before .before .before .before .args .start))
+slice-write-p-2 c =
+    let given = c .before .before .before .before .before .args in
+    omega (arith, length-set (given .p .now) 1 (given .start))
 
 loop-less : tie.Need-loop-less Inv-loop μ-loop
 loop-less c = omega arith

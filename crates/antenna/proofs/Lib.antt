@@ -1,0 +1,4 @@
+pub mod Readings
+pub mod Accepted
+pub mod Copies
+pub mod Rows

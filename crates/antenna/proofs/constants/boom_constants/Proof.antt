@@ -1,0 +1,15 @@
+-- `antenna::constants::boom_constants` meets its contract.
+use Rattle.antenna.specs.TypeConstants.{boomConstants, waveConstants}
+use borrow.Author.Needs.{needs}
+use Rattle.antenna.proofs.constants.boom_constants.Statement.{statement}
+use Rattle.antenna.proofs.constants.boom_constants.Tie as tie
+
+wave-constants-requires : tie.Need-wave-constants-requires
+wave-constants-requires c κs = search needs
+
+returns : tie.Need-returns
+unfolding boomConstants waveConstants
+returns c = simp (c .wave-constants .ensures)
+
+pub boom-constants-spec : {M : Type 1} → statement M
+boom-constants-spec = tie.close (tie.spec wave-constants-requires returns)

@@ -1,0 +1,92 @@
+-- `antenna::row::row` meets its contract.
+use borrow.Author.Needs.{needs}
+use denote.Ref.{now}
+use mathlib.Core.Path.{_≡_, sym, _∙_}
+use native.Mathlib.Omega.{arith}
+use lib.ListN.{length}
+use Rattle.antenna.specs.Row.{numbersOf, rowAnswer}
+use Rattle.antenna.proofs.Copies.{all-over}
+use Rattle.antenna.proofs.Rows.{measurable, row-refused, row-not-finite, row-finite, refused-row, accepted-row}
+use Rattle.antenna.proofs.row.row.Statement.{statement}
+use Rattle.antenna.proofs.row.row.Tie as tie
+
+row-refusal-requires : tie.Need-row-refusal-requires
+row-refusal-requires c κs = search needs
+
+returns : tie.Need-returns
+unfolding rowAnswer
+returns c =
+    let a = c .before .before .before .before .before .args in
+    let r = row-refused (a .ant) (now (a .table)) (a .u) (a .giso) (now (a .lent)) _ (c .before .row-refusal .ensures) (c .if1 .taken) in
+    (sym r, refused-row (a .ant) (now (a .table)) (a .u) (a .giso) (now (a .lent)) _ r)
+
+numbers-requires : tie.Need-numbers-requires
+numbers-requires c κs =
+    let n : c .before .row-refusal .result ≡ 0 = omega (arith, c .if1 .left) in
+    let k = measurable _ _ _ _ _ (sym (c .before .row-refusal .ensures) ∙ n) in
+    (k .counts, k .table)
+
+front-to-back-requires : tie.Need-front-to-back-requires
+front-to-back-requires c κs = search needs
+
+slice-aggregate-all-finite : tie.Need-slice-aggregate-all-finite
+slice-aggregate-all-finite c = search needs
+
+all-finite-requires : tie.Need-all-finite-requires
+all-finite-requires c κs = search needs
+
+is-finite-requires : tie.Need-is-finite-requires
+is-finite-requires c κs = search needs
+
+returns-2 : tie.Need-returns-2
+unfolding rowAnswer numbersOf
+returns-2 c =
+    let a = c .before .before .before .before .before .before .before .before .before .before .before .args in
+    let r =
+    row-not-finite (a .ant) (now (a .table)) (a .u) (a .giso) (now (a .lent)) _ (c .before .before .before .before .before .before .before .row-refusal .ensures) _ _ _ _ (c .before .before .before .before .before .before .if1 .left)
+    (c .before .before .before .before .before .numbers .ensures) (c .before .before .before .before .front-to-back .ensures) (c .before .before .all-finite .ensures) (c .before .is-finite .ensures) (c .if2 .taken) in
+    (sym r, refused-row (a .ant) (now (a .table)) (a .u) (a .giso) (now (a .lent)) 10 r)
+
+slice-aggregate-lay-over : tie.Need-slice-aggregate-lay-over
+slice-aggregate-lay-over c = search needs
+
+lay-over-requires : tie.Need-lay-over-requires
+lay-over-requires c κs =
+    let n : c .before .before .before .before .before .before .before .before .before .row-refusal .result ≡ 0 = omega (arith, c .before .before .before .before .before .before .before .before .if1 .left) in
+    let k = measurable _ _ _ _ _ (sym (c .before .before .before .before .before .before .before .before .before .row-refusal .ensures) ∙ n) in
+    omega (arith, k .row, c .before .before .before .before .before .before .before .numbers .ok)
+
+same-length : tie.Need-same-length
+same-length c = search needs
+
+returns-3 : tie.Need-returns-3
+unfolding rowAnswer numbersOf
+returns-3 c =
+    let a = c .before .before .before .before .before .before .before .before .before .before .before .before .before .before .before .before .args in
+    let n : c .before .before .before .before .before .before .before .before .before .before .before .before .row-refusal .result ≡ 0 = omega (arith, c .before .before .before .before .before .before .before .before .before .before .before .if1 .left) in
+    let k = measurable _ _ _ _ _ (sym (c .before .before .before .before .before .before .before .before .before .before .before .before .row-refusal .ensures) ∙ n) in
+    let l : length (c .before .before .before .before .before .before .before .before .before .before .numbers .result) ≡ length (now (a .lent)) = omega (arith, k .row, c .before .before .before .before .before .before .before .before .before .before .numbers .ok) in
+    let r =
+    row-finite (a .ant) (now (a .table)) (a .u) (a .giso) (now (a .lent)) _ (c .before .before .before .before .before .before .before .before .before .before .before .before .row-refusal .ensures) _ _ _ _ (c .before .before .before .before .before .before .before .before .before .before .before .if1 .left)
+    (c .before .before .before .before .before .before .before .before .before .before .numbers .ensures) (c .before .before .before .before .before .before .before .before .before .front-to-back .ensures) (c .before .before .before .before .before .before .before .all-finite .ensures) (c .before .before .before .before .before .before .is-finite .ensures) (c .before .before .before .before .before .if2 .left) in (
+      sym r,
+      c .before .before .lay-over .ensures ∙ all-over (c .before .before .before .before .before .before .before .before .before .before .numbers .result) (now (a .lent)) l ∙ c .before .before .before .before .before .before .before .before .before .before .numbers .ensures
+          ∙ accepted-row (a .ant) (now (a .table)) (a .u) (a .giso) (now (a .lent)) _ r,
+    )
+
+pub row-spec : {M : Type 1} → statement M
+row-spec =
+    tie.close
+    (tie.spec
+    row-refusal-requires
+    returns
+    numbers-requires
+    front-to-back-requires
+    slice-aggregate-all-finite
+    all-finite-requires
+    is-finite-requires
+    returns-2
+    slice-aggregate-lay-over
+    lay-over-requires
+    same-length
+    returns-3)

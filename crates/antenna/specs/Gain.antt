@@ -1,0 +1,73 @@
+-- Document 01, part 7 and "Answers": `ccirgain`, the gain at a direction with its kind, and its refusals. Definitions only.
+use Prim.Native.Nat.{ℕ}
+use mathlib.Core.Bool.{Bool, cond, not, _&&_}
+use mathlib.Core.List.{List}
+use lib.ListN.{length}
+use lib.Dec.{ltb}
+use lib.Ieee.{Float, neg, lt, le, eq}
+use lib.Ieee.Scale.{finite}
+use Rattle.numeric.specs.Logarithm.{log10Of}
+use Rattle.model.specs.Ops.{_⊕_, _⊗_, _⊘_, +0}
+use Rattle.model.specs.Literals.{literal, twenty, thirty}
+use Rattle.model.specs.Counts.{countsOk}
+use Rattle.model.specs.Table.{tableSize}
+use Rattle.model.specs.declared.record.Model.{Model}
+use Rattle.pattern.specs.Gainrel.{gainRel}
+use Rattle.antenna.specs.Answers.{Outcome, refused, accepted}
+use Rattle.antenna.specs.Limits.{typeOk}
+use Rattle.antenna.specs.declared.record.Antenna.{Antenna}
+use Rattle.antenna.specs.declared.gain.Gain.{Gain}
+use Rattle.antenna.specs.declared.gain.Gain.the-variants.{Level, Floor, Silence, Refused}
+
+-- FLOOR, negated
+abbrev pub floorLevel : Float
+floorLevel = neg thirty
+
+-- 0.03162278
+abbrev pub floorRatio : Float
+floorRatio = literal 0x3d0186e3
+
+-- -30 where x lies below it
+unfoldable pub floored : Float → Float
+floored x = cond (lt x floorLevel) floorLevel x
+
+-- 20 log10 of the ratio to the peak, -30 from the ratio 0.03162278 down
+unfoldable pub ratioLevel : Float → Float
+ratioLevel dgs = cond (le dgs floorRatio) floorLevel (twenty ⊗ log10Of dgs)
+
+-- the number of the source's `ccirgain`, by the relative gain z9, the peak z6 and the maximum gain
+unfoldable pub decibelsOf : Float → Float → Float → Float
+decibelsOf z9 z6 giso = cond (eq z6 +0) floorLevel (floored (floored (ratioLevel (z9 ⊘ z6)) ⊕ giso))
+
+pub data Kind : Type 0 where
+  level : Kind
+  floor : Kind
+  silence : Kind
+
+-- "Silence: a peak `z6` of 0. Floor: any other -30. Level: all else."
+unfoldable pub kindOf : Float → Float → Kind
+kindOf z6 g = cond (eq z6 +0) silence (cond (eq g floorLevel) floor level)
+
+-- 10: the number isn't finite
+unfoldable pub graded : Float → Float → Outcome (Kind × Float)
+graded z6 g = cond (not (finite g)) (refused 10) (accepted (kindOf z6 g, g))
+
+-- the number at elevation u and azimuth v
+unfoldable pub numberAt : Model → Float → List Float → Float → Float → Float → Float
+numberAt m z6 t u v giso = decibelsOf (gainRel m t u v) z6 giso
+
+-- `ccirgain`, the lowest refusal first
+unfoldable pub gainOf : Antenna → List Float → Float → Float → Float → Outcome (Kind × Float)
+gainOf a t u v giso =
+    cond (not (finite u && finite v && finite giso)) (refused 2)
+    (cond (not (typeOk (a .model .iant))) (refused 3)
+    (cond (not (countsOk (a .model))) (refused 6)
+    (cond (ltb (length t) tableSize) (refused 8)
+    (graded (a .peak .z6) (numberAt (a .model) (a .peak .z6) t u v giso)))))
+
+-- what each case of the answer says
+unfoldable pub gainAnswer : Gain → Outcome (Kind × Float)
+gainAnswer (Level g) = accepted (level, g)
+gainAnswer (Floor g) = accepted (floor, g)
+gainAnswer (Silence g) = accepted (silence, g)
+gainAnswer (Refused n) = refused n

@@ -1,0 +1,68 @@
+-- Document 01, part 9: the plate row, with its refusals. Definitions only.
+use Prim.Native.Nat.{ℕ, zero, suc}
+use mathlib.Core.Bool.{Bool, cond, not, _&&_, _||_}
+use mathlib.Core.List.{List}
+use lib.ListN.{length, getD, set, replicate}
+use lib.Dec.{ltb, eqb}
+use lib.Ieee.{Float, nan, eq}
+use lib.Ieee.Scale.{finite}
+use Rattle.model.specs.Ops.{_⊖_, count, +0}
+use Rattle.model.specs.Ranges.{between, allFinite}
+use Rattle.model.specs.Counts.{countsOk}
+use Rattle.model.specs.Table.{tableSize}
+use Rattle.model.specs.declared.record.Model.{Model}
+use Rattle.antenna.specs.Answers.{Outcome, refused, accepted}
+use Rattle.antenna.specs.Whole.{wholeOf}
+use Rattle.antenna.specs.Limits.{ninety, typeOk}
+use Rattle.antenna.specs.Gain.{numberAt}
+use Rattle.antenna.specs.declared.record.Antenna.{Antenna}
+use Rattle.antenna.specs.declared.row.PlateRow.{PlateRow}
+use Rattle.antenna.specs.declared.row.PlateRow.the-variants.{FrontToBack, Refused}
+
+-- 7: a whole elevation 0..90, -0 too
+unfoldable pub elevationOk : Float → Bool
+elevationOk u = between u +0 ninety && eq u (wholeOf u)
+
+-- the `ccirgain` numbers at azimuths 0 to n - 1, in a row of 360
+unfoldable pub rowTo : Model → Float → List Float → Float → Float → ℕ → List Float
+rowTo m z6 t u giso zero = replicate 360 +0
+rowTo m z6 t u giso (suc v) = set (rowTo m z6 t u giso v) v (numberAt m z6 t u (count v) giso)
+
+unfoldable pub numbersOf : Antenna → List Float → Float → Float → List Float
+numbersOf a t u giso = rowTo (a .model) (a .peak .z6) t u giso 360
+
+-- the entry at 0 less the entry at 180
+unfoldable pub frontToBack : List Float → Float
+frontToBack row = getD row 0 nan ⊖ getD row 180 nan
+
+-- 10: a number or front-to-back isn't finite
+unfoldable pub measured : List Float → Outcome Float
+measured row = cond (not (allFinite row && finite (frontToBack row))) (refused 10) (accepted (frontToBack row))
+
+-- the first refusal that needs no number, with a table of size floats and n floats lent for the row; 0 where there is none
+unfoldable pub rowRefusal : Model → ℕ → Float → Float → ℕ → ℕ
+rowRefusal m size u giso n =
+    cond (not (finite u && finite giso)) 2
+    (cond (not (typeOk (m .iant))) 3
+    (cond (not (countsOk m)) 6
+    (cond (not (elevationOk u)) 7
+    (cond (ltb size tableSize || not (eqb n 360)) 8 0))))
+
+-- the row at elevation u, with n floats lent for it
+unfoldable pub rowOf : Antenna → List Float → Float → Float → ℕ → Outcome Float
+rowOf a t u giso n =
+    let number = rowRefusal (a .model) (length t) u giso n in
+    cond (ltb 0 number) (refused number) (measured (numbersOf a t u giso))
+
+-- what each case of the answer says
+unfoldable pub rowAnswer : PlateRow → Outcome Float
+rowAnswer (FrontToBack x) = accepted x
+rowAnswer (Refused n) = refused n
+
+-- the lent floats afterwards: the numbers, or after a refusal what they were
+unfoldable pub writtenAfter : Outcome Float → List Float → List Float → List Float
+writtenAfter (refused n) numbers lent = lent
+writtenAfter (accepted x) numbers lent = numbers
+
+unfoldable pub rowAfter : Antenna → List Float → Float → Float → List Float → List Float
+rowAfter a t u giso lent = writtenAfter (rowOf a t u giso (length lent)) (numbersOf a t u giso) lent

@@ -1,0 +1,101 @@
+-- Document 01, part 7: `antinit2`, set-up from the twenty parameters, with its refusals. Definitions only.
+use Prim.Native.Nat.{ℕ}
+use mathlib.Core.Bool.{Bool, cond, not, _&&_}
+use mathlib.Core.List.{List}
+use lib.ListN.{length, replicate}
+use lib.Dec.{ltb}
+use lib.Ieee.{Float, toSigned}
+use lib.Ieee.Scale.{finite}
+use Rattle.model.specs.Ops.{_⊘_, +0}
+use Rattle.model.specs.Literals.{two}
+use Rattle.model.specs.Angle.{jantOf}
+use Rattle.model.specs.declared.record.Elements.{Elements}
+use Rattle.model.specs.declared.record.Model.{Model}
+use Rattle.ground.specs.Trig.{trigTables}
+use Rattle.ground.specs.Ground.{groundOf}
+use Rattle.ground.specs.Table.{logPeriodic, tableOf}
+use Rattle.logperiodic.specs.LogPeriodic.{logParm}
+use Rattle.logperiodic.specs.declared.geometry.Design.{Design}
+use Rattle.logperiodic.specs.declared.logparm.LogPeriodic.{LogPeriodic}
+use Rattle.antenna.specs.Answers.{Outcome, refused, accepted}
+use Rattle.antenna.specs.Copy.{laidOver}
+use Rattle.antenna.specs.Whole.{nonZero}
+use Rattle.antenna.specs.Limits.{slot, nelOf, arrayType, startOf, refusalOf}
+use Rattle.antenna.specs.TypeConstants.{rlambdaOf, betaOf, constantsOf}
+use Rattle.antenna.specs.Search.{gainormOf}
+use Rattle.antenna.specs.declared.record.Antenna.{Antenna}
+use Rattle.antenna.specs.declared.search.Search.{Search}
+use Rattle.antenna.specs.declared.setup.Prepared.{Prepared}
+use Rattle.antenna.specs.declared.setup.Prepared.the-variants.{Ready, Refused}
+use Rattle.antenna.specs.declared.setup.SetUp.{SetUp}
+
+-- `logparm`'s arguments for types 5 and 6
+unfoldable pub designOf : List Float → Design
+designOf p = record { rlnel = slot p 7 ⊘ two; rl1 = slot p 6 ⊘ two; hnel = slot p 10; h1 = slot p 9; dc = slot p 8; z0 = slot p 11 }
+
+-- no elements, and no boom
+unfoldable pub noElements : LogPeriodic
+noElements = record {
+  elements = record {
+    fi = replicate 36 +0;
+    rim = replicate 36 +0;
+    x = replicate 36 +0;
+    y = replicate 36 +0;
+    iek = replicate 36 0;
+    rl = replicate 36 +0;
+    h = replicate 31 +0;
+    nat = 0;
+  };
+  boom = record { sinth = +0; costh = +0 };
+}
+
+unfoldable pub elementsOf : ℕ → List Float → LogPeriodic
+elementsOf iant p = cond (logPeriodic iant) (logParm iant (nelOf p) (designOf p) (rlambdaOf p) (betaOf p)) noElements
+
+-- `ifs` isn't 0; types from 5 on have none
+unfoldable pub slewedOf : ℕ → List Float → Bool
+slewedOf iant p = arrayType iant && nonZero (toSigned 31 (slot p 9))
+
+-- all that `antinit2` leaves for `gainrel`, but for the table
+unfoldable pub modelOf : ℕ → List Float → Model
+modelOf iant p =
+    let l = elementsOf iant p in
+    let k = constantsOf iant p (l .boom) in
+    record { iant = iant; slewed = slewedOf iant p; constants = k; elements = l .elements; trig = trigTables; ground = groundOf iant k trigTables }
+
+-- 9: a gain met in the search, or z6, umax, vmax after it, isn't finite
+unfoldable pub searchRefused : Search → Bool
+searchRefused s = not (s .sound && finite (s .peak .z6) && finite (s .peak .umax) && finite (s .peak .vmax))
+
+-- the antenna record with the readings of its search
+unfoldable pub acceptedOf : Model → Search → Outcome (Antenna × ℕ)
+acceptedOf m s = accepted (record { model = m; peak = s .peak }, s .readings)
+
+unfoldable pub found : Model → Search → Outcome (Antenna × ℕ)
+found m s = cond (searchRefused s) (refused 9) (acceptedOf m s)
+
+unfoldable pub searched : ℕ → List Float → Outcome (Antenna × ℕ)
+searched iant p = let m = modelOf iant p in found m (gainormOf m (tableOf m) (startOf iant p))
+
+-- `antinit2` of the parameters p, with n floats lent for the table
+unfoldable pub setUpOf : List Float → ℕ → Outcome (Antenna × ℕ)
+setUpOf p n =
+    let iant = jantOf (slot p 1) in
+    let number = refusalOf iant p n in
+    cond (ltb 0 number) (refused number) (searched iant p)
+
+-- what set-up's answer says: a refusal's number alone, or the antenna record and the reading count
+unfoldable pub setUpAnswer : SetUp → Outcome (Antenna × ℕ)
+setUpAnswer s = said (s .answer) (s .antenna)
+  where
+    said : Prepared → Antenna → Outcome (Antenna × ℕ)
+    said (Ready n) a = accepted (a, n)
+    said (Refused n) a = refused n
+
+-- the lent floats afterwards: the antenna's table, then those past it; after a refusal what they were
+unfoldable pub keptAfter : Outcome (Antenna × ℕ) → List Float → List Float
+keptAfter (refused n) lent = lent
+keptAfter (accepted a) lent = laidOver (tableOf (a .0 .model)) lent
+
+unfoldable pub lentAfter : List Float → List Float → List Float
+lentAfter p lent = keptAfter (setUpOf p (length lent)) lent
