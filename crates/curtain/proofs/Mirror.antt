@@ -7,28 +7,20 @@ use lib.Ieee.{Float, nan, inf, fin, binary32, neg, lt, ofBits}
 use Rattle.numeric.specs.Float.{mag, copySign}
 use Rattle.numeric.specs.Sine.{sine, cosine}
 use Rattle.numeric.proofs.Laws.{sine-odd, cosine-even}
-use Rattle.numeric.proofs.Edges.{sin-minus-zero}
-use Rattle.model.specs.Ops.{_⊖_, +0, +0-is}
-use Rattle.model.specs.Literals.{literal}
+use Rattle.numeric.proofs.Edges.{sin-zero}
+use Rattle.model.specs.Ops.{_⊖_, +0-is}
 use Rattle.model.specs.Opposite.{Opposite, negated, zeros}
 use Rattle.model.proofs.Negation.{neg-neg, mag-neg}
 use Rattle.model.proofs.Opposites.{with-neg, add-opposite, sub-opposite, mul-opposite-right, square-same, even-same, odd-opposite}
 use Rattle.curtain.specs.Literals.{PI}
 use Rattle.curtain.specs.Azimuth.{iaz, folded}
-use Rattle.curtain.specs.Pattern.{ef, arg, bayCosines, baySines, bayPower, stackPower, f2, stackSines}
+use Rattle.curtain.specs.Pattern.{efOf, arg, bayCosines, baySines, bayPower, stackPower, f2, stackSines}
 use Rattle.curtain.specs.declared.pattern.Curtain.{Curtain}
 
 -- ---- the sine and the cosine of opposite angles
 
-minus-zero : neg (literal 0x80000000) ≡ +0
-unfolding neg ofBits
-minus-zero = refl
-
-pub sine-zero : sine +0 ≡ +0
-sine-zero = ap sine (sym minus-zero) ∙ sine-odd (literal 0x80000000) ∙ ap neg sin-minus-zero ∙ minus-zero
-
 sine-opposite : {x y : Float} → Opposite x y → Opposite (sine x) (sine y)
-sine-opposite = odd-opposite sine sine-odd (ap sine (sym +0-is) ∙ sine-zero ∙ +0-is)
+sine-opposite = odd-opposite sine sine-odd (ap sine (sym +0-is) ∙ sin-zero ∙ +0-is)
 
 cosine-same : {x y : Float} → Opposite x y → cosine x ≡ cosine y
 cosine-same = even-same cosine cosine-even
@@ -59,8 +51,8 @@ module _ (ant : Curtain) (u : Unphased ant) {x y : Float} (o : Opposite x y) whe
   unfolding bayPower
   bayPower-same = rw (bayCosines-same (ant .nbs), square-same binary32 (baySines-opposite (ant .nbs)))
 
-ef-same : (eil ceil : Float) {x y : Float} → Opposite x y → ef eil ceil x ≡ ef eil ceil y
-unfolding ef
+ef-same : (eil ceil : Float) {x y : Float} → Opposite x y → efOf eil ceil x ≡ efOf eil ceil y
+unfolding efOf
 ef-same eil ceil o = rw (square-same binary32 o, cosine-same (mul-opposite-right binary32 eil o))
 
 stackPower-same : (fz stheta cphi : Float) {x y : Float} → Opposite x y → stackPower fz stheta x cphi ≡ stackPower fz stheta y cphi

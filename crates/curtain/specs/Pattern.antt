@@ -1,7 +1,6 @@
 -- The source's `f2`: the curtain's power pattern at one direction. Definitions only.
 use Prim.Native.Nat.{ℕ, zero, suc}
 use mathlib.Core.Bool.{cond}
-use mathlib.Core.Path.{_≡_, refl}
 use lib.ListN.{getD}
 use lib.Ieee.{Float, nan, le}
 use Rattle.numeric.specs.Sine.{sine, cosine}
@@ -11,9 +10,9 @@ use Rattle.curtain.specs.Literals.{tiny}
 use Rattle.curtain.specs.declared.pattern.Curtain.{Curtain}
 use Rattle.curtain.specs.declared.pattern.Elevation.{Elevation}
 
--- one dipole: spsi2 is 1.0e-12 at the least
-unfoldable pub ef : Float → Float → Float → Float
-ef eil ceil cpsi =
+-- ef, one dipole: spsi2 is 1.0e-12 at the least
+unfoldable pub efOf : Float → Float → Float → Float
+efOf eil ceil cpsi =
     let s = one ⊖ cpsi ⊗ cpsi in
     let spsi2 = cond (le s tiny) tiny s in
     (cosine (eil ⊗ cpsi) ⊖ ceil) ⊘ spsi2
@@ -58,7 +57,7 @@ f2 ant theta phi =
     let ctheta = cosine theta in
     let stheta = sine theta in
     let cpsi = ctheta ⊗ sphi in
-    let ef = ef (ant .eil) (ant .ceil) cpsi in
+    let ef = efOf (ant .eil) (ant .ceil) cpsi in
     let fx = sine (ant .xr ⊗ ctheta ⊗ cphi) in
     let fz = stackSines ant stheta (ant .nostak) in
     ef ⊗ ef ⊗ fx ⊗ fx ⊗ bayPower ant cpsi ⊗ stackPower fz stheta sphi cphi
@@ -74,10 +73,6 @@ f2At ant e phi =
     let cphi = cosine phi in
     let sphi = sine phi in
     let cpsi = e .ctheta ⊗ sphi in
-    let ef = ef (ant .eil) (ant .ceil) cpsi in
+    let ef = efOf (ant .eil) (ant .ceil) cpsi in
     let fx = sine (ant .xr ⊗ e .ctheta ⊗ cphi) in
     ef ⊗ ef ⊗ fx ⊗ fx ⊗ bayPower ant cpsi ⊗ stackPower (e .fz) (e .stheta) sphi cphi
-
-pub f2-in-steps : (ant : Curtain) (theta phi : Float) → f2At ant (elevationOf ant theta) phi ≡ f2 ant theta phi
-unfolding f2 f2At elevationOf
-f2-in-steps ant theta phi = refl

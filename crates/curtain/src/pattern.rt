@@ -19,7 +19,7 @@ pub struct Curtain {
 
 // One dipole, cpsi being the cosine of the angle to it.
 fn dipole(eil: f32, ceil: f32, cpsi: f32) -> f32
-    ensures { λ r. ⌜ r ≡ Pattern.ef eil ceil cpsi ⌝ }
+    ensures { λ r. ⌜ r ≡ Pattern.efOf eil ceil cpsi ⌝ }
 {
     let b = numeric::sine::cos(eil * cpsi) - ceil;
     let spsi2 = 1.0 - cpsi * cpsi;

@@ -5,7 +5,7 @@ use native.Mathlib.Numerals.{add-one}
 use native.Mathlib.Omega.{arith}
 use lib.Ieee.{ofBits}
 use borrow.Author.Needs.{needs}
-use Rattle.curtain.specs.Pattern.{f2-in-steps}
+use Rattle.curtain.proofs.InSteps.{f2-in-steps}
 use Rattle.curtain.specs.Integral.{pAfter, readings}
 use Rattle.curtain.proofs.integral.readings.Statement.{statement}
 use Rattle.curtain.proofs.integral.readings.Tie as tie

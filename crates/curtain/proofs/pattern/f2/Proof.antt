@@ -1,6 +1,6 @@
 -- `curtain::pattern::f2` meets its contract.
 use mathlib.Core.Path.{_∙_}
-use Rattle.curtain.specs.Pattern.{f2At, f2-in-steps}
+use Rattle.curtain.proofs.InSteps.{f2-in-steps}
 use borrow.Author.Needs.{needs}
 use Rattle.curtain.proofs.pattern.f2.Statement.{statement}
 use Rattle.curtain.proofs.pattern.f2.Tie as tie
