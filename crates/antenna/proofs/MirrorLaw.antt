@@ -1,7 +1,7 @@
 -- Demand 3: the mirror law holds.
 use Prim.Native.Nat.{ℕ, _-_, _^_, _≤_}
 use mathlib.Core.Path.{_≡_, refl}
-use mathlib.Core.Logic.{_⊎_, inl, inr}
+use mathlib.Core.Logic.{inl, inr}
 use mathlib.Core.Bool.{true}
 use mathlib.Core.List.{List}
 use native.Mathlib.Omega.{arith}
@@ -15,15 +15,15 @@ use lib.Ieee.Scale.{finite}
 use lib.Ieee.Back.{positive-back}
 use Rattle.model.specs.Ops.{count, +0}
 use Rattle.model.specs.Angle.{jantOf}
+use Rattle.model.specs.declared.record.Model.{Model}
 use Rattle.logperiodic.specs.declared.geometry.Boom.{Boom}
 use Rattle.pattern.proofs.GainrelMirror.{gainRel-mirror}
 use Rattle.pattern.proofs.Slew.{unslewed}
 use Rattle.curtain.specs.Pattrn0.{islewOf}
 use Rattle.curtain.proofs.Unslewed.{curtain-mirror}
-use Rattle.antenna.specs.Answers.{accepted}
 use Rattle.antenna.specs.Limits.{slot, arrayType}
 use Rattle.antenna.specs.TypeConstants.{arrayConstants, constantsOf}
-use Rattle.antenna.specs.SetUp.{modelOf, setUpOf, lentAfter}
+use Rattle.antenna.specs.SetUp.{modelOf, lentAfter}
 use Rattle.antenna.specs.Gain.{numberAt, gainOf}
 use Rattle.antenna.specs.MirrorLaw.{Symmetric, MirrorLaw}
 use Rattle.antenna.specs.declared.record.Antenna.{Antenna}
@@ -46,25 +46,30 @@ azimuth-finite : (v : ℕ) → v ≤ 360 → finite (count v) ≡ true
 unfolding inFloat
 azimuth-finite v h = whole-finite (count v) (positive-back binary32 31 v (le→leb v (2 ^ 24) (omega arith)) (omega arith) .0)
 
-module _ (p lent : List Float) (a : Antenna) (n : ℕ) (h : setUpOf p (length lent) ≡ accepted (a, n)) where
-  most : Symmetric p → a .model .iant ≤ 6
-  unfolding modelOf
-  most (inl s) = rw (accepted-model p (length lent) h) (omega arith)
-  most (inr s) = rw (accepted-model p (length lent) h) (omega arith)
+abbrev modelFrom : List Float → Model
+modelFrom p = modelOf (jantOf (slot p 1)) p
 
-  still : Symmetric p → a .model .iant ≤ 4 → a .model .constants .sl ≡ +0
-  unfolding modelOf
-  still s l = go s (rw (accepted-model p (length lent) h) at l)
-    where
-      go : Symmetric p → jantOf (slot p 1) ≤ 4 → a .model .constants .sl ≡ +0
-      go (inl s) l = rw (accepted-model p (length lent) h) (no-slew (jantOf (slot p 1)) p l _ (s .2))
-      go (inr s) l = absurd (omega arith)
+type-to-6 : (p : List Float) → Symmetric p → modelFrom p .iant ≤ 6
+unfolding modelOf
+type-to-6 p (inl s) = omega arith
+type-to-6 p (inr s) = omega arith
 
-  gain-mirror : Symmetric p → (u giso : Float) (v : ℕ) → v ≤ 360 → (v ≡ 90 → ⊥) → (v ≡ 270 → ⊥)
-      → gainOf a (lentAfter p lent) u (count v) giso ≡ gainOf a (lentAfter p lent) u (count (360 - v)) giso
-  unfolding gainOf numberAt
-  gain-mirror s u giso v l x y =
-      rw (azimuth-finite v l, azimuth-finite (360 - v) (omega arith), gainRel-mirror (a .model) (most s) (still s) (lentAfter p lent) u v l x y)
+unslewed-to-4 : (p : List Float) → Symmetric p → modelFrom p .iant ≤ 4 → modelFrom p .constants .sl ≡ +0
+unfolding modelOf
+unslewed-to-4 p (inl s) l = no-slew (jantOf (slot p 1)) p l _ (s .2)
+unslewed-to-4 p (inr s) l = absurd (omega arith)
+
+gain-mirror : (p : List Float) → Symmetric p → (a : Antenna) → a .model ≡ modelFrom p
+    → (t : List Float) (u giso : Float) (v : ℕ) → v ≤ 360 → (v ≡ 90 → ⊥) → (v ≡ 270 → ⊥)
+    → gainOf a t u (count v) giso ≡ gainOf a t u (count (360 - v)) giso
+unfolding gainOf numberAt
+gain-mirror p s a e t u giso v l x y =
+    rw (
+      e,
+      azimuth-finite v l,
+      azimuth-finite (360 - v) (omega arith),
+      gainRel-mirror (modelFrom p) (type-to-6 p s) (unslewed-to-4 p s) t u v l x y,
+    )
 
 -- ---- `curtain::gain`
 
@@ -76,6 +81,7 @@ pub mirror-law : MirrorLaw
 unfolding islewOf
 mirror-law =
     record {
-      ccirgain = λ p lent a n h s u giso fu fg v l x y. gain-mirror p lent a n h s u giso v l x y;
+      ccirgain =
+          λ p lent a n h s u giso fu fg v l x y. gain-mirror p s a (accepted-model p (length lent) h) (lentAfter p lent) u giso v l x y;
       curtain = λ p l h azimd elevd gnorm fa fe. curtain-mirror p (at-most-3 _ l h) azimd elevd gnorm;
     }

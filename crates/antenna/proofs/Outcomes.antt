@@ -25,7 +25,7 @@ use Rattle.antenna.specs.declared.search.Search.{Search}
 use Rattle.antenna.proofs.Accepted.{both, set-up-found, found-accepted}
 
 -- an accepted outcome passed its first test
-pub passed : {A : Type 0} (b : Bool) (n : ℕ) (rest : Outcome A) {x : A} → cond b (refused n) rest ≡ accepted x → (b ≡ false) × (rest ≡ accepted x)
+passed : {A : Type 0} (b : Bool) (n : ℕ) (rest : Outcome A) {x : A} → cond b (refused n) rest ≡ accepted x → (b ≡ false) × (rest ≡ accepted x)
 passed true n rest h = let z : _≡_ {A = ℕ} 0 1 = cc in absurd (omega arith)
 passed false n rest h = (refl, h)
 
@@ -44,14 +44,14 @@ module _ (p : List Float) (size : ℕ) where
     pub search : searchRefused searchOf ≡ false
 
   -- accepted just when the limits are met and every gain of the search, and what it found, is finite
-  pub accepts : Met → setUpOf p size ≡ acceptedOf (modelOf (jantOf (slot p 1)) p) searchOf
-  accepts m =
+  pub accepted-when : Met → setUpOf p size ≡ acceptedOf (modelOf (jantOf (slot p 1)) p) searchOf
+  accepted-when m =
       set-up-found p size 0 (jantOf (slot p 1)) refl (sym (m .limits)) _ _ (omega arith) refl refl
       ∙ found-accepted _ _ false (sym (m .search)) refl
 
-  pub accepts-only : {a : Antenna × ℕ} → setUpOf p size ≡ accepted a → Met
+  pub accepted-only-when : {a : Antenna × ℕ} → setUpOf p size ≡ accepted a → Met
   unfolding setUpOf searched found
-  accepts-only h =
+  accepted-only-when h =
       let number = refusalOf (jantOf (slot p 1)) p size in
       let l = passed (ltb 0 number) _ _ h in
       let s = passed (searchRefused searchOf) _ _ (l .1) in
@@ -59,7 +59,7 @@ module _ (p : List Float) (size : ℕ) where
 
   pub accepted-model : {a : Antenna} {n : ℕ} → setUpOf p size ≡ accepted (a, n) → a .model ≡ modelOf (jantOf (slot p 1)) p
   unfolding acceptedOf
-  accepted-model {a} {n} h = ap (λ (w : Antenna × ℕ). w .0 .model) (same (sym h ∙ accepts (accepts-only h)))
+  accepted-model {a} {n} h = ap (λ (w : Antenna × ℕ). w .0 .model) (same (sym h ∙ accepted-when (accepted-only-when h)))
 
 -- ---- gain and row
 
