@@ -2,3 +2,6 @@ pub mod Readings
 pub mod Accepted
 pub mod Copies
 pub mod Rows
+pub mod Outcomes
+pub mod MirrorLaw
+pub mod StarredEdges

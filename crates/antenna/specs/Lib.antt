@@ -8,3 +8,5 @@ pub mod TypeConstants
 pub mod SetUp
 pub mod Gain
 pub mod Row
+pub mod MirrorLaw
+pub mod StarredEdges

@@ -1,0 +1,85 @@
+-- What an accepted call says: its limits were met, and its numbers are finite.
+use Prim.Native.Nat.{ℕ}
+use mathlib.Core.Path.{_≡_, refl, sym, ap, _∙_}
+use mathlib.Core.Bool.{Bool, true, false, not, cond, _&&_}
+use mathlib.Core.List.{List}
+use native.Mathlib.Omega.{arith}
+use borrow.Author.Tests.{ltb-false, not-false}
+use lib.ListN.{length}
+use lib.Dec.{ltb}
+use lib.Ieee.{Float}
+use lib.Ieee.Scale.{finite}
+use Rattle.model.specs.Angle.{jantOf}
+use Rattle.model.specs.Ranges.{allFinite}
+use Rattle.model.specs.Counts.{countsOk}
+use Rattle.model.specs.Table.{tableSize}
+use Rattle.ground.specs.Table.{tableOf}
+use Rattle.antenna.specs.Answers.{Outcome, refused, accepted}
+use Rattle.antenna.specs.Limits.{slot, typeOk, startOf, refusalOf}
+use Rattle.antenna.specs.Search.{gainormOf}
+use Rattle.antenna.specs.SetUp.{modelOf, searchRefused, acceptedOf, found, searched, setUpOf}
+use Rattle.antenna.specs.Gain.{Kind, graded, numberAt, gainOf}
+use Rattle.antenna.specs.Row.{numbersOf, frontToBack, measured, rowRefusal, rowOf}
+use Rattle.antenna.specs.declared.record.Antenna.{Antenna}
+use Rattle.antenna.specs.declared.search.Search.{Search}
+use Rattle.antenna.proofs.Accepted.{both, set-up-found, found-accepted}
+
+-- an accepted outcome passed its first test
+passed : {A : Type 0} (b : Bool) (n : ℕ) (rest : Outcome A) {x : A} → cond b (refused n) rest ≡ accepted x → (b ≡ false) × (rest ≡ accepted x)
+passed true n rest h = let z : _≡_ {A = ℕ} 0 1 = cc in absurd (omega arith)
+passed false n rest h = (refl, h)
+
+same : {A : Type 0} {x y : A} → accepted x ≡ accepted y → x ≡ y
+same h = cc
+
+-- ---- set-up
+
+module _ (p : List Float) (size : ℕ) where
+  -- the search that set-up makes
+  abbrev searchOf : Search
+  searchOf = let m = modelOf (jantOf (slot p 1)) p in gainormOf m (tableOf m) (startOf (jantOf (slot p 1)) p)
+
+  pub record Met : Type 0 where
+    pub limits : refusalOf (jantOf (slot p 1)) p size ≡ 0
+    pub search : searchRefused searchOf ≡ false
+
+  -- accepted just when the limits are met and every gain of the search, and what it found, is finite
+  pub accepted-when : Met → setUpOf p size ≡ acceptedOf (modelOf (jantOf (slot p 1)) p) searchOf
+  accepted-when m =
+      set-up-found p size 0 (jantOf (slot p 1)) refl (sym (m .limits)) _ _ (omega arith) refl refl
+      ∙ found-accepted _ _ false (sym (m .search)) refl
+
+  pub accepted-only-when : {a : Antenna × ℕ} → setUpOf p size ≡ accepted a → Met
+  unfolding setUpOf searched found
+  accepted-only-when h =
+      let number = refusalOf (jantOf (slot p 1)) p size in
+      let l = passed (ltb 0 number) _ _ h in
+      let s = passed (searchRefused searchOf) _ _ (l .1) in
+      record { limits = omega (arith, ltb-false 0 number (l .0)); search = s .0 }
+
+  pub accepted-model : {a : Antenna} {n : ℕ} → setUpOf p size ≡ accepted (a, n) → a .model ≡ modelOf (jantOf (slot p 1)) p
+  unfolding acceptedOf
+  accepted-model {a} {n} h = ap (λ (w : Antenna × ℕ). w .0 .model) (same (sym h ∙ accepted-when (accepted-only-when h)))
+
+-- ---- gain and row
+
+pub accepted-gain-finite : (a : Antenna) (t : List Float) (u v giso : Float) {k : Kind} {g : Float} → gainOf a t u v giso ≡ accepted (k, g) → finite g ≡ true
+unfolding gainOf graded
+accepted-gain-finite a t u v giso {k} {g} h =
+    let n = numberAt (a .model) (a .peak .z6) t u v giso in
+    let h3 = passed (not (finite u && finite v && finite giso)) _ _ h .1 in
+    let h6 = passed (not (typeOk (a .model .iant))) _ _ h3 .1 in
+    let h8 = passed (not (countsOk (a .model))) _ _ h6 .1 in
+    let h10 = passed (ltb (length t) tableSize) _ _ h8 .1 in
+    let s = passed (not (finite n)) _ _ h10 in
+    rw (ap (λ (w : Kind × Float). w .1) (same (s .1))) at (not-false (finite n) (s .0))
+
+pub accepted-row-finite : (a : Antenna) (t : List Float) (u giso : Float) (size : ℕ) {x : Float} → rowOf a t u giso size ≡ accepted x
+    → (allFinite (numbersOf a t u giso) ≡ true) × (finite x ≡ true)
+unfolding rowOf measured
+accepted-row-finite a t u giso size {x} h =
+    let row = numbersOf a t u giso in
+    let m = passed (ltb 0 (rowRefusal (a .model) (length t) u giso size)) _ _ h .1 in
+    let s = passed (not (allFinite row && finite (frontToBack row))) _ _ m in
+    let f = both (allFinite row) (finite (frontToBack row)) (not-false _ (s .0)) in
+    (f .0, rw (same (s .1)) at (f .1))
