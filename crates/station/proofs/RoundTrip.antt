@@ -15,7 +15,7 @@ use borrow.Author.Tests.{eq-eqb, eqb-true, le-leb, leb-true}
 use Rattle.model.specs.Ranges.{allFinite}
 use Rattle.station.specs.declared.Station.{Station}
 use Rattle.station.specs.Digits.{after, number, digits, Below, none, more}
-use Rattle.station.specs.Record.{packed, headerIn, wordsIn, spareIn, floatsOf, stationOf, editionIn, modeIn, floatsIn, isRecord, recordOf, zeros}
+use Rattle.station.specs.Record.{packed, headerIn, wordsIn, spareIn, floatsOf, wordsOf, stationOf, editionIn, modeIn, floatsIn, isRecord, recordOf, zeros}
 use Rattle.station.specs.Answers.{accepted, refused, floatsAnswer, readOf, writeOf}
 use Rattle.station.proofs.Digits.{after-lt, after-div, after-digits, length-digits, below-digits, read-digits, write-digits}
 use Rattle.station.proofs.Finite.{finite-value, allFinite-cons}
@@ -125,13 +125,13 @@ accepted-write s out bytes e = go (allFinite (floatsOf s)) (leb (s .mode) 3) (eq
 
 -- what it means that the reader accepts
 accepted-read : (bytes : List ℕ) (s : Station) → readOf bytes ≡ accepted s
-    → (isRecord bytes ≡ true) × (allFinite (floatsIn bytes) ≡ true) × (stationOf (modeIn bytes) (floatsIn bytes) ≡ s)
+    → (isRecord bytes ≡ true) × (allFinite (floatsIn 4 bytes) ≡ true) × (stationOf (modeIn bytes) (floatsIn 4 bytes) ≡ s)
 unfolding readOf floatsAnswer
-accepted-read bytes s e = go (isRecord bytes) (allFinite (floatsIn bytes)) refl refl e
+accepted-read bytes s e = go (isRecord bytes) (allFinite (floatsIn 4 bytes)) refl refl e
   where
-    go : (a f : Bool) → isRecord bytes ≡ a → allFinite (floatsIn bytes) ≡ f
-        → cond (not a) (refused 1 (zeros 0)) (cond (not f) (refused 2 (zeros 0)) (accepted (stationOf (modeIn bytes) (floatsIn bytes)))) ≡ accepted s
-        → (isRecord bytes ≡ true) × (allFinite (floatsIn bytes) ≡ true) × (stationOf (modeIn bytes) (floatsIn bytes) ≡ s)
+    go : (a f : Bool) → isRecord bytes ≡ a → allFinite (floatsIn 4 bytes) ≡ f
+        → cond (not a) (refused 1 (zeros 0)) (cond (not f) (refused 2 (zeros 0)) (accepted (stationOf (modeIn bytes) (floatsIn 4 bytes)))) ≡ accepted s
+        → (isRecord bytes ≡ true) × (allFinite (floatsIn 4 bytes) ≡ true) × (stationOf (modeIn bytes) (floatsIn 4 bytes) ≡ s)
     go true true p q r = (p, q, same-values r)
     go true false p q r = absurd (never r)
     go false f p q r = absurd (never r)
@@ -139,7 +139,7 @@ accepted-read bytes s e = go (isRecord bytes) (allFinite (floatsIn bytes)) refl 
 record-read : (s : Station) → Typed s → allFinite (floatsOf s) ≡ true → s .mode ≤ 3 → readOf (recordOf s) ≡ accepted s
 unfolding readOf isRecord recordOf floatsIn floatsAnswer
 record-read s t finite-floats small =
-    let ws = map (toBits binary32) (floatsOf s) in
+    let ws = wordsOf s in
     let n : length ws ≡ 56 = length-map (floatsOf s) (toBits binary32) ∙ floats-length s (t .parm) (t .gainmax) (t .gainmaxb) in
     let below = patterns-below (t .floats) in
     let mode : s .mode < 2 ^ 4 = omega arith in
@@ -148,13 +148,13 @@ record-read s t finite-floats small =
     rw (packed-length 4 (lit≤ tt) (s .mode) ws mode below n, packed-header 4 (lit≤ tt) (s .mode) ws mode below n, packed-spare 4 (lit≤ tt) (s .mode) ws mode below n, packed-words 4 (lit≤ tt) (s .mode) ws mode below n, q, r, values-back (t .floats), finite-floats)
     (ap accepted (station-of (s .parm) (s .gainmax) (s .gainmaxb) (t .parm) (t .gainmax) (s .mode)))
 
-read-record : (bytes : List ℕ) → Below 256 bytes → isRecord bytes ≡ true → allFinite (floatsIn bytes) ≡ true → recordOf (stationOf (modeIn bytes) (floatsIn bytes)) ≡ bytes
+read-record : (bytes : List ℕ) → Below 256 bytes → isRecord bytes ≡ true → allFinite (floatsIn 4 bytes) ≡ true → recordOf (stationOf (modeIn bytes) (floatsIn 4 bytes)) ≡ bytes
 unfolding recordOf isRecord floatsIn wordsIn
 read-record bytes below e f =
     let i = both-true (eqb (length bytes) 225) (eqb (editionIn bytes) 0 && eqb (spareIn 4 bytes) 0) e in
     let j = both-true (eqb (editionIn bytes) 0) (eqb (spareIn 4 bytes) 0) (i .1) in
     let header : modeIn bytes ≡ headerIn 4 bytes = omega (arith, eqb-true (editionIn bytes) 0 (j .0)) in
-    ap (λ (fs : List Float). packed 4 (modeIn bytes) (map (toBits binary32) fs)) (floats-back (modeIn bytes) (floatsIn bytes))
+    ap (λ (fs : List Float). packed 4 (modeIn bytes) (map (toBits binary32) fs)) (floats-back (modeIn bytes) (floatsIn 4 bytes))
     ∙ ap (packed 4 (modeIn bytes)) (patterns-back (below-digits (2 ^ 32) 56 (number 256 bytes / 2 ^ (8 - 4)) (lit< tt)) f)
     ∙ ap (λ (k : ℕ). packed 4 k (wordsIn 4 bytes)) header
     ∙ packed-again 4 bytes below (eqb-true (length bytes) 225 (i .0)) (eqb-true (spareIn 4 bytes) 0 (j .1))
@@ -171,6 +171,6 @@ unfolding writeOf
 written-read bytes below s out room e =
     let a = accepted-read bytes s e in
     let m : s .mode ≤ 3 = subst (λ (x : Station). x .mode ≤ 3) (a .2) (omega arith) in
-    let f : allFinite (floatsOf s) ≡ true = subst (λ (x : Station). allFinite (floatsOf x) ≡ true) (a .2) (ap allFinite (floats-back (modeIn bytes) (floatsIn bytes)) ∙ a .1) in
+    let f : allFinite (floatsOf s) ≡ true = subst (λ (x : Station). allFinite (floatsOf x) ≡ true) (a .2) (ap allFinite (floats-back (modeIn bytes) (floatsIn 4 bytes)) ∙ a .1) in
     let r : recordOf s ≡ bytes = ap recordOf (sym (a .2)) ∙ read-record bytes below (a .0) (a .1) in
     rw (f, le-leb (s .mode) 3 m, eq-eqb (length out) 225 room, r)

@@ -57,11 +57,11 @@ word-alone h n a b c d e l =
     ∙ add-mul-mod-self-right (w / u) (n * 2 ^ h) (2 ^ 32)
 
 -- n elements of l from at + i on, one by one
-abbrev elements : List ℕ → ℕ → ℕ → ℕ → List ℕ
+abbrev pub elements : List ℕ → ℕ → ℕ → ℕ → List ℕ
 elements l at i zero = []
 elements l at i (suc n) = getD l (at + i) 0 ∷ elements l at (suc i) n
 
-take-elements : (l : List ℕ) (at i n : ℕ) → at + i + n ≤ length l → take n (drop (at + i) l) ≡ elements l at i n
+pub take-elements : (l : List ℕ) (at i n : ℕ) → at + i + n ≤ length l → take n (drop (at + i) l) ≡ elements l at i n
 take-elements l at i zero h = refl
 take-elements l at i (suc n) h =
     ap (take (suc n)) (drop-cons l (at + i) 0 (omega arith) ∙ ap (λ (k : ℕ). getD l (at + i) 0 ∷ drop k l) (sym (add-suc at i)))
@@ -119,9 +119,9 @@ pub is-record : (b : List ℕ) → Below 256 b → length b ≡ 225 → isRecord
 unfolding isRecord
 is-record b bytes len = rw (eq-eqb (length b) 225 len, header-at 4 (lit≤ tt) b bytes len, spare-at 4 (lit≤ tt) b bytes len)
 
-pub floats-in-length : (b : List ℕ) → length (floatsIn b) ≡ 56
+pub floats-in-length : (h : ℕ) (b : List ℕ) → length (floatsIn h b) ≡ 56
 unfolding floatsIn wordsIn
-floats-in-length b = length-map (wordsIn 4 b) (ofBits binary32) ∙ length-digits (2 ^ 32) 56 (number 256 b / 2 ^ 4)
+floats-in-length h b = length-map (wordsIn h b) (ofBits binary32) ∙ length-digits (2 ^ 32) 56 (number 256 b / 2 ^ (8 - h))
 
 -- inside a list the default does not count
 getD-any : {A : Type 0} (l : List A) (k : ℕ) (d e : A) → k < length l → getD l k d ≡ getD l k e
@@ -129,10 +129,10 @@ getD-any [] k d e h = absurd (omega arith)
 getD-any (x ∷ xs) zero d e h = refl
 getD-any (x ∷ xs) (suc k) d e h = getD-any xs k d e (omega arith)
 
-pub float-in : (b : List ℕ) (k : ℕ) → k < 56 → getD (floatsIn b) k nan ≡ ofBits binary32 (getD (wordsIn 4 b) k 0)
+pub float-in : (h : ℕ) (b : List ℕ) (k : ℕ) → k < 56 → getD (floatsIn h b) k nan ≡ ofBits binary32 (getD (wordsIn h b) k 0)
 unfolding floatsIn
-float-in b k h =
-    getD-any (floatsIn b) k nan (ofBits binary32 0) (omega (arith, floats-in-length b)) ∙ List·getD-map (ofBits binary32) (wordsIn 4 b) k 0
+float-in h b k l =
+    getD-any (floatsIn h b) k nan (ofBits binary32 0) (omega (arith, floats-in-length h b)) ∙ List·getD-map (ofBits binary32) (wordsIn h b) k 0
 
 pub record-length : (b : List ℕ) → isRecord b ≡ true → length b ≡ 225
 unfolding isRecord

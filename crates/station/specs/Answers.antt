@@ -27,7 +27,7 @@ floatsAnswer mode fs = cond (not (allFinite fs)) (refused 2 (zeros 0)) (accepted
 
 -- the reader's answer: refusals 1 and 2, whose number stands alone, or the station
 unfoldable pub readOf : List ℕ → Answer Station
-readOf bytes = cond (not (isRecord bytes)) (refused 1 (zeros 0)) (floatsAnswer (modeIn bytes) (floatsIn bytes))
+readOf bytes = cond (not (isRecord bytes)) (refused 1 (zeros 0)) (floatsAnswer (modeIn bytes) (floatsIn 4 bytes))
 
 -- the writer's answer and the lent bytes: refusals 2, 4 and 8, which leave them as they were, or the record
 unfoldable pub writeOf : Station → List ℕ → Answer (List ℕ)

@@ -25,6 +25,10 @@ wordsIn h bytes = digits (2 ^ 32) 56 (number 256 bytes / 2 ^ (8 - h))
 unfoldable pub spareIn : ℕ → List ℕ → ℕ
 spareIn h bytes = number 256 bytes % 2 ^ (8 - h)
 
+-- the floats of the words
+unfoldable pub floatsIn : ℕ → List ℕ → List Float
+floatsIn h bytes = map (ofBits binary32) (wordsIn h bytes)
+
 -- the word in the five bytes that it lies in: the 32 bits after the first h
 unfoldable pub wordIn : ℕ → List ℕ → ℕ
 wordIn h five = number 256 five / 2 ^ (8 - h) % 2 ^ 32
@@ -33,6 +37,10 @@ wordIn h five = number 256 five / 2 ^ (8 - h) % 2 ^ 32
 
 abbrev pub floatsOf : Station → List Float
 floatsOf s = s .parm ++ s .gainmax ++ s .gainmaxb
+
+-- its words, a float's bits each
+abbrev pub wordsOf : Station → List ℕ
+wordsOf s = map (toBits binary32) (floatsOf s)
 
 abbrev pub stationOf : ℕ → List Float → Station
 stationOf mode fs = record { mode = mode; parm = take 20 fs; gainmax = take 6 (drop 20 fs); gainmaxb = drop 26 fs }
@@ -48,13 +56,10 @@ editionIn bytes = headerIn 4 bytes / 4
 abbrev pub modeIn : List ℕ → ℕ
 modeIn bytes = headerIn 4 bytes % 4
 
-unfoldable pub floatsIn : List ℕ → List Float
-floatsIn bytes = map (ofBits binary32) (wordsIn 4 bytes)
-
 -- not refusal 1: 225 bytes, edition 0, no spare bit set
 unfoldable pub isRecord : List ℕ → Bool
 isRecord bytes = eqb (length bytes) 225 && (eqb (editionIn bytes) 0 && eqb (spareIn 4 bytes) 0)
 
 -- the bytes of a station. The header is the mode, since the edition before it is 0
 unfoldable pub recordOf : Station → List ℕ
-recordOf s = packed 4 (s .mode) (map (toBits binary32) (floatsOf s))
+recordOf s = packed 4 (s .mode) (wordsOf s)

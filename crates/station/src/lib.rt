@@ -68,7 +68,7 @@ fn is_record(bytes: &[u8]) -> bool
 // The station of this mode and a record's floats, or refusal 2 at the first that isn't finite.
 fn read_floats(bytes: &[u8], mode: u8) -> Reading
     requires { ⌜ length (now bytes) ≡ 225 ⌝ }
-    ensures { λ r. ⌜ answer (r .verdict) (r .station) ≡ floatsAnswer mode (floatsIn (now (bytes .entry))) ⌝ }
+    ensures { λ r. ⌜ answer (r .verdict) (r .station) ≡ floatsAnswer mode (floatsIn 4 (now (bytes .entry))) ⌝ }
 {
     let mut station = blank(mode);
     let mut k: usize = 0;

@@ -1,6 +1,5 @@
 -- `station::put_record` meets its contract: the words so far are written, but for the bits that are carried. Assumes nothing.
 use mathlib.Core.Path.{_≡_, sym, ap, _∙_, subst}
-use mathlib.Core.List.{List, map}
 use Prim.Native.Nat.{ℕ, _-_, _*_, _≤_, _<_}
 use native.Mathlib.Nat.{mod-eq-of-lt}
 use native.Mathlib.Omega.{arith}
@@ -9,15 +8,11 @@ use lib.ListN.{length, getD, length-map, length-set, List·getD-map}
 use lib.Ieee.{binary32, toBits, nan}
 use lib.Dec.{lit≤}
 use borrow.Author.Needs.{needs}
-use Rattle.station.specs.declared.Station.{Station}
-use Rattle.station.specs.Record.{floatsOf, recordOf}
+use Rattle.station.specs.Record.{floatsOf, wordsOf, recordOf}
 use Rattle.station.proofs.Arrays.{floats-length}
 use Rattle.station.proofs.Packing.{Written, written-none, written-carry, written-more, written-all}
 use Rattle.station.proofs.put_record.Statement.{statement}
 use Rattle.station.proofs.put_record.Tie as tie
-
-abbrev wordsOf : Station → List ℕ
-wordsOf s = map (toBits binary32) (floatsOf s)
 
 abbrev Inv-loop : tie.InvT-loop
 Inv-loop s out₀ carry₀ k₀ out carry k = (k ≤ 56) × Written 4 (s .mode) (wordsOf s) out carry k

@@ -24,7 +24,7 @@ abbrev blanks : List Float
 blanks = replicate 56 (ofBits binary32 0)
 
 abbrev Inv-loop : tie.InvT-loop
-Inv-loop bytes mode station₀ k₀ station k = (k ≤ 56) × (finiteTo (floatsIn bytes) k ≡ true) × (station ≡ stationOf mode (paste blanks 0 (floatsIn bytes) k))
+Inv-loop bytes mode station₀ k₀ station k = (k ≤ 56) × (finiteTo (floatsIn 4 bytes) k ≡ true) × (station ≡ stationOf mode (paste blanks 0 (floatsIn 4 bytes) k))
 
 abbrev μ-loop : tie.MeasureT-loop
 μ-loop bytes mode station₀ k₀ station k = 56 - k
@@ -34,7 +34,7 @@ blank-requires c κs = tt
 
 loop-holds : tie.Need-loop-holds Inv-loop μ-loop
 unfolding finiteTo zeros
-loop-holds c = (omega arith, refl, c .blank .ensures ∙ ap (stationOf (c .before .before .args .mode)) (sym (paste-zero blanks 0 (floatsIn (c .before .before .args .bytes .now)))))
+loop-holds c = (omega arith, refl, c .blank .ensures ∙ ap (stationOf (c .before .before .args .mode)) (sym (paste-zero blanks 0 (floatsIn 4 (c .before .before .args .bytes .now)))))
 
 word-at-requires : tie.Need-word-at-requires Inv-loop μ-loop
 word-at-requires c κs = (c .before .before .before .before .pre, omega arith, lit≤ tt)
@@ -46,10 +46,10 @@ is-finite-requires : tie.Need-is-finite-requires Inv-loop μ-loop
 is-finite-requires c κs = tt
 
 -- what was read is float k
-read-float : (c : tie.After-float-of Inv-loop μ-loop) → c .float-of .result ≡ getD (floatsIn (c .before .before .before .before .before .before .args .bytes .now)) (c .before .before .before .loop .k) nan
+read-float : (c : tie.After-float-of Inv-loop μ-loop) → c .float-of .result ≡ getD (floatsIn 4 (c .before .before .before .before .before .before .args .bytes .now)) (c .before .before .before .loop .k) nan
 read-float c =
     let head = c .before .before .before in
-    c .float-of .ensures ∙ ap (ofBits binary32) (c .before .word-at .ensures) ∙ sym (float-in (head .before .before .before .args .bytes .now) (head .loop .k) (omega arith))
+    c .float-of .ensures ∙ ap (ofBits binary32) (c .before .word-at .ensures) ∙ sym (float-in 4 (head .before .before .before .args .bytes .now) (head .loop .k) (omega arith))
 
 refuse-requires : tie.Need-refuse-requires Inv-loop μ-loop
 refuse-requires c κs = tt
@@ -61,8 +61,8 @@ returns c =
     let head = x .before .before .before in
     let bytes = head .before .before .before .args .bytes .now in
     let k = head .loop .k in
-    let e : finite (getD (floatsIn bytes) k nan) ≡ false = sym (ap finite (read-float x)) ∙ sym (c .before .before .is-finite .ensures) ∙ not-true _ (c .before .if1 .taken) in
-    c .refuse .ensures ∙ sym (rw (finite-none (floatsIn bytes) k (omega (arith, floats-in-length bytes)) e))
+    let e : finite (getD (floatsIn 4 bytes) k nan) ≡ false = sym (ap finite (read-float x)) ∙ sym (c .before .before .is-finite .ensures) ∙ not-true _ (c .before .if1 .taken) in
+    c .refuse .ensures ∙ sym (rw (finite-none (floatsIn 4 bytes) k (omega (arith, floats-in-length 4 bytes)) e))
 
 with-float-requires : tie.Need-with-float-requires Inv-loop μ-loop
 with-float-requires c κs = omega arith
@@ -78,19 +78,19 @@ loop-again c =
     let x = c .before .before .before in
     let head = x .before .before .before in
     let start = head .before .before .before in
-    let fs = floatsIn (start .args .bytes .now) in
+    let fs = floatsIn 4 (start .args .bytes .now) in
     let k = head .loop .k in
     let e : finite (getD fs k nan) ≡ true = sym (ap finite (read-float x)) ∙ sym (c .before .before .is-finite .ensures) ∙ not-false _ (c .before .if1 .left) in (
       omega arith,
       rw add-one (finite-more fs k (head .loop .inv .1) e),
-      rw add-one (c .with-float .ensures ∙ pasted (start .args .mode) blanks fs k (x .float-of .result) nan (head .loop .station) (head .loop .inv .2) (read-float x) (omega arith) (omega (arith, floats-in-length (start .args .bytes .now)))),
+      rw add-one (c .with-float .ensures ∙ pasted (start .args .mode) blanks fs k (x .float-of .result) nan (head .loop .station) (head .loop .inv .2) (read-float x) (omega arith) (omega (arith, floats-in-length 4 (start .args .bytes .now)))),
     )
 
 returns-2 : tie.Need-returns-2 Inv-loop μ-loop
 unfolding floatsAnswer allFinite
 returns-2 c =
-    let fs = floatsIn (c .before .before .before .before .args .bytes .now) in
-    let n : length fs ≡ 56 = floats-in-length (c .before .before .before .before .args .bytes .now) in
+    let fs = floatsIn 4 (c .before .before .before .before .args .bytes .now) in
+    let n : length fs ≡ 56 = floats-in-length 4 (c .before .before .before .before .args .bytes .now) in
     let e : c .before .loop .k ≡ 56 = omega arith in
     let f : allFinite fs ≡ true = ap (finiteTo fs) n ∙ (rw e at (c .before .loop .inv .1)) in
     let g : c .before .loop .station ≡ stationOf (c .before .before .before .before .args .mode) fs = rw (e, pasted-all blanks fs refl n) at (c .before .loop .inv .2) in

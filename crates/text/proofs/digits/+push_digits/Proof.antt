@@ -1,3 +1,4 @@
+-- `text::digits::push_digits` meets its contract: the digits before the last, by itself, then the last. The measure is the number of digits left. Assumes nothing.
 use mathlib.Core.Path.{_≡_, sym, ap, _∙_}
 use native.Mathlib.Nat.{add-zero, lt-of-lt-of-le, mod-lt}
 use native.Mathlib.Omega.{arith}
@@ -101,7 +102,10 @@ push-digits-push-requires : (t : ℕ) → push-digits-lts.Need-push-requires (
   push-reads.Asked,
   push-reads.Learnt,
 ) (push-digits-at t) push-digits.Post
-push-digits-push-requires t c κs = omega (arith, c .before .before .before .before .push-digits .ensures .after, digits-length (c .before .before .before .before .before .before .before .before .args .base) (c .before .before .before .before .before .before .before .before .args .k - 1) (c .before .before .before .before .before .before .before .before .args .n / c .before .before .before .before .before .before .before .before .args .base), c .before .before .before .before .push-digits .kept .0)
+push-digits-push-requires t c κs =
+    let first = c .before .before .before .before in
+    let a = first .before .before .before .before .args in
+    omega (arith, first .push-digits .ensures .after, digits-length (a .base) (a .k - 1) (a .n / a .base), first .push-digits .kept .0)
 
 push-digits-same-length : (t : ℕ) → push-digits-lts.Need-same-length (
   push-digits-below t,
