@@ -1,6 +1,6 @@
 -- What accepted parameters say of the model that is made from them, and set-up's outcome from its steps.
 use Prim.Native.Nat.{ℕ, suc, _≤_, _<_}
-use mathlib.Core.Path.{_≡_, refl, sym, ap, _∙_}
+use mathlib.Core.Path.{_≡_, refl}
 use mathlib.Core.Bool.{Bool, true, false, not, cond, _&&_}
 use mathlib.Core.List.{List}
 use native.Mathlib.Omega.{arith}
@@ -17,7 +17,7 @@ use Rattle.model.specs.declared.record.Model.{Model}
 use Rattle.ground.specs.Table.{logPeriodic, tableOf}
 use Rattle.logperiodic.specs.Active.{Listed}
 use Rattle.logperiodic.specs.declared.geometry.Boom.{Boom}
-use Rattle.antenna.specs.Answers.{Outcome, refused, accepted}
+use Rattle.antenna.specs.Answers.{refused, accepted}
 use Rattle.antenna.specs.Copy.{laidOver}
 use Rattle.antenna.specs.Limits.{slot, typeOk, arrayType, bandOk, nelOf, slotsOk, aimOk, startOf, refusalOf}
 use Rattle.antenna.specs.TypeConstants.{arrayConstants, boomConstants, rhombicConstants, crossedConstants, constantsOf}

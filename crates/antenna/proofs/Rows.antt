@@ -1,6 +1,6 @@
 -- The row's outcome from its steps.
 use Prim.Native.Nat.{ℕ, _≤_, _<_}
-use mathlib.Core.Path.{_≡_, refl, sym, _∙_}
+use mathlib.Core.Path.{_≡_, refl, _∙_}
 use mathlib.Core.Bool.{Bool, true, false, not, _&&_, _||_}
 use mathlib.Core.List.{List}
 use native.Mathlib.Omega.{arith}
@@ -13,7 +13,7 @@ use Rattle.model.specs.Counts.{countsOk}
 use Rattle.model.specs.Ranges.{allFinite}
 use Rattle.model.specs.Table.{tableSize}
 use Rattle.model.specs.declared.record.Model.{Model}
-use Rattle.antenna.specs.Answers.{Outcome, refused, accepted}
+use Rattle.antenna.specs.Answers.{refused, accepted}
 use Rattle.antenna.specs.Limits.{typeOk}
 use Rattle.antenna.specs.Row.{elevationOk, numbersOf, frontToBack, measured, rowRefusal, rowOf, writtenAfter, rowAfter}
 use Rattle.antenna.specs.declared.record.Antenna.{Antenna}

@@ -1,6 +1,5 @@
 -- Document 01, part 7 and "Answers": `ccirgain`, the gain at a direction with its kind, and its refusals. Definitions only.
-use Prim.Native.Nat.{ℕ}
-use mathlib.Core.Bool.{Bool, cond, not, _&&_}
+use mathlib.Core.Bool.{cond, not, _&&_}
 use mathlib.Core.List.{List}
 use lib.ListN.{length}
 use lib.Dec.{ltb}

@@ -9,7 +9,6 @@ use lib.Ieee.Scale.{finite}
 use Rattle.model.specs.Ops.{_⊘_, +0}
 use Rattle.model.specs.Literals.{two}
 use Rattle.model.specs.Angle.{jantOf}
-use Rattle.model.specs.declared.record.Elements.{Elements}
 use Rattle.model.specs.declared.record.Model.{Model}
 use Rattle.ground.specs.Trig.{trigTables}
 use Rattle.ground.specs.Ground.{groundOf}

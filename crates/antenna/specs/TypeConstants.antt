@@ -1,6 +1,6 @@
 -- The constants of each type, as `antinit2` sets them from the twenty parameters; those that it leaves alone are +0. Definitions only.
 use Prim.Native.Nat.{ℕ}
-use mathlib.Core.Bool.{Bool, cond, not, _||_}
+use mathlib.Core.Bool.{cond, _||_}
 use mathlib.Core.List.{List}
 use lib.Dec.{eqb}
 use lib.Ieee.{Float}

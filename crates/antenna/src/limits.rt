@@ -6,7 +6,7 @@ use model::range::is_between;
 use model::range::is_from_to;
 ghost use mathlib.Core.Path.{_≡_};
 ghost use Rattle.ground.specs.Table.{logPeriodic};
-ghost use Rattle.antenna.specs.Limits.{typeOk, arrayType, inBand, bandOk, nelOf, slotsOk, startOf, startOk, aimOk, refusalOf};
+ghost use Rattle.antenna.specs.Limits.{typeOk, arrayType, inBand, bandOk, slotsOk, startOf, startOk, aimOk, refusalOf};
 
 pub(crate) fn type_ok(iant: u32) -> bool
     ensures { λ r. ⌜ r ≡ typeOk iant ⌝ }

@@ -3,9 +3,8 @@ use mathlib.Core.Path.{_≡_, refl}
 use Prim.Native.Nat.{_+_, _≤_, _-_}
 use native.Mathlib.Omega.{arith}
 use native.Mathlib.Numerals.{add-one}
-use borrow.Author.Needs.{needs}
 use Rattle.antenna.specs.Search.{met, noted, steps, azimuthStep}
-use Rattle.antenna.proofs.Readings.{noted-counts, plateau-grows}
+use Rattle.antenna.proofs.Readings.{plateau-grows}
 use Rattle.antenna.proofs.search.azimuth_pass.Statement.{statement}
 use Rattle.antenna.proofs.search.azimuth_pass.Tie as tie
 

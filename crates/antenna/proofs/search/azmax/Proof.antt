@@ -1,5 +1,4 @@
 -- `antenna::search::azmax` meets its contract.
-use mathlib.Core.Path.{_≡_, refl}
 use native.Mathlib.Omega.{arith}
 use Rattle.antenna.specs.Search.{azmaxOf, passFrom}
 use borrow.Author.Needs.{needs}

@@ -1,5 +1,5 @@
 -- `antenna::search::ended_at` meets its contract.
-use mathlib.Core.Path.{_≡_, refl}
+use mathlib.Core.Path.{refl}
 use Rattle.antenna.specs.Search.{endedAt}
 use Rattle.antenna.proofs.search.ended_at.Statement.{statement}
 use Rattle.antenna.proofs.search.ended_at.Tie as tie

@@ -1,5 +1,5 @@
 -- `antenna::search::last_searched` meets its contract.
-use mathlib.Core.Path.{_≡_, refl}
+use mathlib.Core.Path.{refl}
 use Rattle.antenna.specs.Search.{lastSearched}
 use Rattle.antenna.proofs.search.last_searched.Statement.{statement}
 use Rattle.antenna.proofs.search.last_searched.Tie as tie

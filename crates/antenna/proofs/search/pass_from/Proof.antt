@@ -1,5 +1,5 @@
 -- `antenna::search::pass_from` meets its contract.
-use mathlib.Core.Path.{_≡_, refl}
+use mathlib.Core.Path.{refl}
 use Rattle.antenna.specs.Search.{passFrom}
 use Rattle.antenna.proofs.search.pass_from.Statement.{statement}
 use Rattle.antenna.proofs.search.pass_from.Tie as tie

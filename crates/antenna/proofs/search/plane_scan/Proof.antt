@@ -1,5 +1,4 @@
 -- `antenna::search::plane_scan` meets its contract.
-use mathlib.Core.Path.{_≡_, refl}
 use native.Mathlib.Omega.{arith}
 use Rattle.antenna.specs.Search.{planeScan, unread}
 use borrow.Author.Needs.{needs}

@@ -1,5 +1,5 @@
 -- `antenna::search::plane_searched` meets its contract.
-use mathlib.Core.Path.{_≡_, refl}
+use mathlib.Core.Path.{refl}
 use Rattle.antenna.specs.Search.{planeSearched}
 use Rattle.antenna.proofs.search.plane_searched.Statement.{statement}
 use Rattle.antenna.proofs.search.plane_searched.Tie as tie

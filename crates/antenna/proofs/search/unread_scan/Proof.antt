@@ -1,5 +1,5 @@
 -- `antenna::search::unread_scan` meets its contract.
-use mathlib.Core.Path.{_≡_, refl}
+use mathlib.Core.Path.{refl}
 use Rattle.antenna.specs.Search.{unread}
 use Rattle.antenna.proofs.search.unread_scan.Statement.{statement}
 use Rattle.antenna.proofs.search.unread_scan.Tie as tie

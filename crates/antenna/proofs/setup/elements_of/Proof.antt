@@ -1,7 +1,6 @@
 -- `antenna::setup::elements_of` meets its contract.
 use borrow.Author.Needs.{needs}
-use mathlib.Core.Path.{_≡_, refl, sym, _∙_}
-use mathlib.Core.Bool.{true}
+use mathlib.Core.Path.{refl, sym, _∙_}
 use native.Mathlib.Omega.{arith}
 use Rattle.model.specs.Counts.{elementsOk}
 use Rattle.antenna.specs.TypeConstants.{waveConstants}
