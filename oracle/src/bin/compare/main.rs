@@ -21,6 +21,7 @@ mod records;
 mod report;
 #[cfg(all(source, feature = "row"))]
 mod rows;
+mod stored;
 
 use report::Comparison;
 
@@ -30,6 +31,7 @@ type Call = (&'static str, u64, fn(u64) -> Vec<Comparison>);
 /// Those that `service` exports and whose source is at hand.
 const CALLS: &[Call] = &[
     ("edges", 1, edges::compare),
+    ("stored", 1, stored::compare),
     #[cfg(source)]
     ("antenna_edges", 1, antenna_edges::compare),
     ("leaf", 5_000_000, leaves::compare),

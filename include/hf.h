@@ -1,0 +1,67 @@
+/* The gain of HF antennas (CCIR types 1 to 9 and the NTIA curtain): the static library `service`, which `rt staticlib service`
+ * writes to target/staticlib/libservice.a. Link it with -lm.
+ *
+ * Every call is total. What is lent (a pointer, then the number of its elements) must be readable, and writable where it isn't
+ * const; two lent pieces of one call must not overlap. That is all that a caller owes. A call keeps no state and no pointer, so
+ * threads may call at once.
+ *
+ * Refusals: 1 record, 2 value, 3 type, 4 mode, 5 band, 6 count, 7 aim, 8 space, 9 pattern, 10 level; the README says what each
+ * means. A refusal leaves all that is lent as it was (hf_row has one exception). "bits" are a 32-bit float's; a NaN is 7FC00000.
+ * A `parm` has an antenna's 20 parameters. */
+#ifndef HF_H
+#define HF_H
+
+#include <stddef.h>
+#include <stdint.h>
+
+#ifdef __cplusplus
+extern "C" {
+#endif
+
+/* What a gain is; the second word beside it has the number's bits, or the refusal's number. */
+enum hf_kind { HF_LEVEL = 0, HF_FLOOR = 1, HF_SILENCE = 2, HF_REFUSED = 3 };
+
+/* An elementary function, bits in and bits out: 0 sin, 1 cos, 2 ln, 3 log10, 4 powf(a, b), 5 atan, 6 sqrt. Returns a NaN outside
+ * the function's domain. b counts for powf alone. */
+uint32_t hf_leaf(uint32_t which, uint32_t a, uint32_t b);
+
+/* The maximum gain. mode: 0 as parm has it, 1 by the ratio of operating to design MHz, 2 by MHz. floats, 58: parm, gainmax (2 rows
+ * of 3), gainmaxb (30), operating MHz, design MHz. out, 21 words: the gain's bits, then the bits of parm as set-up should be given
+ * it. Returns 0 or the refusal (2, 3, 4, 5, 10; 8 where floats isn't 58 or out isn't 21). */
+uint32_t hf_maxgain(uint32_t mode, const float *floats, size_t floats_len, uint32_t *out, size_t out_len);
+
+/* Sets up the antenna, then answers each direction, a pair of elevation and azimuth in degrees; giso is the maximum gain. out, 4
+ * words plus 2 for each pair: the search's readings, the peak's bits, those of its elevation and azimuth; then for each pair an
+ * hf_kind and the bits of the gain in dBi (or the refusal's number). Returns 0 or set-up's refusal (2, 3, 5, 6, 7, 9; 8 where parm
+ * isn't 20, directions_len is odd or out isn't 4 plus directions_len). */
+uint32_t hf_gains(const float *parm, size_t parm_len, float giso, const float *directions, size_t directions_len, uint32_t *out,
+                  size_t out_len);
+
+/* Sets up the antenna into the lent table (at least 11,284 floats), then writes the gains of azimuths 0 to 359 at a whole elevation
+ * 0 to 90 into row (360 floats). out, 5 words: readings, bits of the peak, its elevation and azimuth, and of front-to-back. Returns
+ * 0; set-up's refusal, with nothing written; or 256 plus the row's refusal (2, 7, 8, 10), with the table and the first 4 words of
+ * out written and the row as it was. 8 first where parm isn't 20 or out isn't 5. */
+uint32_t hf_row(const float *parm, size_t parm_len, float *table, size_t table_len, float giso, float elevation, float *row,
+                size_t row_len, uint32_t *out, size_t out_len);
+
+/* The gain of a curtain, whose 20 parameters have places of their own; factor is its normalising factor, or -99999 to find it by
+ * integration. Returns an hf_kind (HF_LEVEL or HF_REFUSED) times 2^32 plus the bits or the refusal (2, 5, 7, 10; 8 where parm
+ * isn't 20). */
+uint64_t hf_curtain(const float *parm, size_t parm_len, float azimuth, float elevation, float factor);
+
+/* A station record of 225 bytes into 57 words: the mode, then the bits of parm (20), gainmax (6) and gainmaxb (30). Returns 0 or
+ * the refusal (1, 2; 8 where words isn't 57). */
+uint32_t hf_read(const uint8_t *record, size_t record_len, uint32_t *words, size_t words_len);
+
+/* The same words into a record of 225 bytes. Returns 0 or the refusal (2, 4, 8). */
+uint32_t hf_write(const uint32_t *words, size_t words_len, uint8_t *record, size_t record_len);
+
+/* The program `plate`: from its whole input (237 bytes) to its whole text. Returns the text's length; 0 with nothing written where
+ * text is under 8,192 bytes. A refusal is a text: "refused 6\n". */
+size_t hf_plate(const uint8_t *input, size_t input_len, uint8_t *text, size_t text_len);
+
+#ifdef __cplusplus
+}
+#endif
+
+#endif

@@ -1,0 +1,22 @@
+//! The stored stations and texts against those that the oracle makes now. `write_examples` writes them.
+use crate::report::Comparison;
+use oracle::examples;
+
+const ROOT: &str = concat!(env!("CARGO_MANIFEST_DIR"), "/../");
+
+fn held(name: &str, files: Vec<(String, Vec<u8>)>) -> Comparison {
+    let mut found = Comparison::new(name);
+    for (path, bytes) in files {
+        let stored = std::fs::read(format!("{ROOT}{path}")).ok();
+        found.hold(&stored, &Some(bytes), || format!("{path} is missing or another: run write_examples"));
+    }
+    found
+}
+
+pub fn compare(_: u64) -> Vec<Comparison> {
+    vec![
+        held("stored stations", examples::inputs()),
+        #[cfg(source)]
+        held("stored texts", examples::texts()),
+    ]
+}

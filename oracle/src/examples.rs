@@ -1,0 +1,204 @@
+//! Stations with a name, in words that a reader can follow: the files of `examples/` and the stored runs of the crate `plate_cases`.
+//! `bin/write_examples.rs` writes the files, `compare` holds those that are stored to these.
+#[cfg(source)]
+use crate::plate;
+use crate::record;
+
+/// A station and what is asked of it. `parm` has the slots from 0 on; those left out are 0. Its first five are the maximum gain of
+/// mode 0 (dBi), the type, the ground's dielectric constant and conductivity (S/m), and the operating MHz of mode 0.
+#[derive(Clone, Copy)]
+struct Station {
+    mode: u32,
+    parm: &'static [f32],
+    gainmax: [[f32; 3]; 2],
+    gainmaxb: [f32; 30],
+    mhz: f32,
+    design: f32,
+    elevation: f32,
+}
+
+/// Document 01's Case P: a log-periodic whose two elements are too long at 10 MHz.
+const CASE_P: Station = Station {
+    mode: 0,
+    parm: &[0.0, 5.0, 4.0, 0.001, 10.0, 2.0, 40.0, 80.0, 10.0, 10.0, 10.0],
+    gainmax: [[0.0; 3]; 2],
+    gainmaxb: [0.0; 30],
+    mhz: 10.0,
+    design: 10.0,
+    elevation: 5.0,
+};
+
+/// Mode 1: the maximum gain by the ratio of operating to design MHz, a row for 2 MHz and one for 30.
+const BY_RATIO: Station = Station { mode: 1, ..CASE_P };
+
+/// Mode 2: the maximum gain by MHz, 1 to 30.
+const BY_MHZ: Station = Station { mode: 2, ..CASE_P };
+
+// Types 1 to 4: dipoles side by side, rows of them, design MHz, height of the lowest row (wavelengths), slew; then type 1: distance
+// of the screen (wavelengths), spacing of its wires (m), their diameter (mm); types 2 and 3: share of the current in the reflector;
+// last the elevation and azimuth that the search starts from.
+
+const TYPE_1: Station = Station {
+    parm: &[0.0, 1.0, 10.0, 0.01, 0.0, 4.0, 4.0, 0.0, 0.5, 0.0, 0.25, 0.05, 2.0, 7.0, 0.0],
+    gainmax: [[18.5, 20.5, 21.5], [19.0, 21.0, 22.0]],
+    mhz: 15.0,
+    design: 12.0,
+    elevation: 8.0,
+    ..BY_RATIO
+};
+const TYPE_2: Station = Station {
+    parm: &[0.0, 2.0, 10.0, 0.01, 0.0, 4.0, 4.0, 0.0, 1.0, 15.0, 0.7, 7.0, 0.0],
+    gainmax: [[20.0, 21.0, 21.5], [20.5, 21.5, 22.0]],
+    mhz: 11.8,
+    design: 11.0,
+    elevation: 6.0,
+    ..BY_RATIO
+};
+const TYPE_3: Station = Station {
+    parm: &[0.0, 3.0, 10.0, 0.01, 0.0, 4.0, 2.0, 0.0, 0.5, 0.0, 0.7, 12.0, 0.0],
+    gainmax: [[16.5, 17.0, 17.5], [17.0, 17.5, 18.0]],
+    mhz: 9.6,
+    design: 9.6,
+    elevation: 12.0,
+    ..BY_RATIO
+};
+const TYPE_4: Station = Station {
+    parm: &[13.0, 4.0, 15.0, 0.005, 5.0, 2.0, 2.0, 5.0, 0.2, 0.0, 90.0, 0.0],
+    mhz: 5.0,
+    design: 5.0,
+    elevation: 60.0,
+    ..CASE_P
+};
+
+// Types 5 and 6: elements, length of the shortest and the longest, distance between them, height of the shortest and the longest
+// (all m), impedance of the feeder (ohms).
+
+const TYPE_5: Station = Station {
+    parm: &[0.0, 5.0, 10.0, 0.01, 0.0, 18.0, 5.0, 30.0, 36.0, 12.0, 30.0, 200.0],
+    gainmaxb: [10.0; 30],
+    mhz: 12.0,
+    elevation: 20.0,
+    ..BY_MHZ
+};
+const TYPE_6: Station = Station {
+    parm: &[0.0, 6.0, 80.0, 5.0, 0.0, 16.0, 6.0, 36.0, 40.0, 4.0, 19.0, 300.0],
+    gainmaxb: [9.0; 30],
+    mhz: 10.5,
+    elevation: 10.0,
+    ..BY_MHZ
+};
+
+/// Length of a leg (m), height (m), half of the angle at the sides (degrees).
+const TYPE_7: Station = Station {
+    parm: &[0.0, 7.0, 10.0, 0.01, 0.0, 100.0, 20.0, 70.0],
+    gainmaxb: [
+        0.0, 2.0, 4.5, 6.5, 8.5, 10.0, 11.5, 12.5, 13.5, 14.5, 15.5, 16.0, 16.5, 17.0, 17.5, 18.0, 18.0, 18.5, 18.5, 18.5, 18.5,
+        18.5, 18.5, 18.5, 18.0, 18.0, 17.5, 17.5, 17.0, 17.0,
+    ],
+    mhz: 14.2,
+    elevation: 12.0,
+    ..BY_MHZ
+};
+
+// Types 8 and 9: design MHz, height (wavelengths), three slots without use, then the search's start.
+
+const TYPE_8: Station = Station {
+    parm: &[0.0, 8.0, 10.0, 0.01, 0.0, 0.0, 0.4, 0.0, 0.0, 0.0, 45.0, 0.0],
+    gainmax: [[6.0, 6.5, 7.0], [6.0, 6.5, 7.0]],
+    mhz: 7.2,
+    design: 7.0,
+    elevation: 35.0,
+    ..BY_RATIO
+};
+const TYPE_9: Station = Station {
+    parm: &[7.0, 9.0, 4.0, 0.001, 4.8, 4.8, 0.25, 0.0, 0.0, 0.0, 90.0, 0.0],
+    mhz: 4.8,
+    design: 4.8,
+    elevation: 70.0,
+    ..CASE_P
+};
+
+/// The same rhombic below its own peak: a maximum gain of 0, so that what lies 30 dB below is a floor.
+const RELATIVE: Station = Station { mode: 0, parm: &[0.0, 7.0, 10.0, 0.01, 14.2, 100.0, 20.0, 70.0], ..TYPE_7 };
+
+/// Type 4 with 65 dipoles side by side; 64 are the most.
+const REFUSED: Station = Station { parm: &[13.0, 4.0, 15.0, 0.005, 5.0, 65.0, 2.0, 5.0, 0.2, 0.0, 90.0, 0.0], ..TYPE_4 };
+
+impl Station {
+    /// The mode, then the 56 floats' bits.
+    fn words(&self) -> [u32; record::WORDS] {
+        let floats: Vec<f32> = self.parm.iter().copied().chain(std::iter::repeat(0.0)).take(20).collect();
+        let gains = self.gainmax.iter().flatten().chain(&self.gainmaxb);
+        let bits: Vec<u32> = floats.iter().chain(gains).map(|x| x.to_bits()).collect();
+        std::array::from_fn(|k| if k == 0 { self.mode } else { bits[k - 1] })
+    }
+
+    /// The 237 bytes that the program reads.
+    fn input(&self) -> Vec<u8> {
+        let mut bytes = vec![0; record::BYTES];
+        record::write(&self.words(), &mut bytes).expect("finite floats");
+        bytes.extend([self.mhz, self.design, self.elevation].iter().flat_map(|x| x.to_bits().to_be_bytes()));
+        bytes
+    }
+}
+
+/// The stations of `examples/` by name.
+fn named() -> Vec<(&'static str, Vec<u8>)> {
+    let stations = [
+        ("case-p", CASE_P),
+        ("type-1", TYPE_1),
+        ("type-2", TYPE_2),
+        ("type-3", TYPE_3),
+        ("type-4", TYPE_4),
+        ("type-5", TYPE_5),
+        ("type-6", TYPE_6),
+        ("type-7", TYPE_7),
+        ("type-8", TYPE_8),
+        ("type-9", TYPE_9),
+        ("relative", RELATIVE),
+        ("refused", REFUSED),
+    ];
+    stations.map(|(name, station)| (name, station.input())).into()
+}
+
+/// An input for each refusal that the program can give, 1 to 7, 9 and 10: it lends itself the space that 8 is about.
+fn refusals() -> Vec<Vec<u8>> {
+    let short = CASE_P.input()[..236].to_vec();
+    let mut infinite = CASE_P.input();
+    // The exponent of slot 0, which starts 4 bits into the record.
+    infinite[0] |= 0x07;
+    infinite[1] |= 0xf8;
+    let stations = [
+        Station { parm: &[0.0, 0.0], ..CASE_P },
+        Station { mode: 3, ..CASE_P },
+        Station { mhz: 31.0, ..TYPE_7 },
+        REFUSED,
+        Station { parm: &[13.0, 4.0, 15.0, 0.005, 5.0, 2.0, 2.0, 5.0, 0.2, 91.0, 90.0, 0.0], ..TYPE_4 },
+        // Wires without spacing: the logarithm of 0.
+        Station { parm: &[0.0, 1.0, 10.0, 0.01, 0.0, 4.0, 4.0, 0.0, 0.5, 0.0, 0.25, 0.0, 2.0, 7.0, 0.0], ..TYPE_1 },
+        // The step from one row to the other is more than a float holds.
+        Station { gainmax: [[-3e38; 3], [3e38; 3]], ..TYPE_1 },
+    ];
+    [short, infinite].into_iter().chain(stations.iter().map(Station::input)).collect()
+}
+
+/// The inputs of the crate `plate_cases` in its order: an antenna of each kind, then the refusals.
+fn cases() -> Vec<Vec<u8>> {
+    let antennas = named().into_iter().filter(|(name, _)| *name != "refused").map(|(_, input)| input);
+    antennas.chain(refusals()).collect()
+}
+
+/// The stored inputs: their place below the repository's root, and their bytes. The cases are named by letters.
+pub fn inputs() -> Vec<(String, Vec<u8>)> {
+    let examples = named().into_iter().map(|(name, input)| (format!("examples/{name}.station"), input));
+    let cases = ('a'..='z').zip(cases()).map(|(letter, input)| (format!("crates/plate_cases/data/{letter}"), input));
+    examples.chain(cases).collect()
+}
+
+/// The stored texts that the program must write, by the oracle's own `plate`.
+#[cfg(source)]
+pub fn texts() -> Vec<(String, Vec<u8>)> {
+    let examples = named().into_iter().map(|(name, input)| (format!("examples/{name}.txt"), plate::output(&input).into_bytes()));
+    let run: String = cases().iter().map(|input| plate::output(input)).collect();
+    examples.chain([("crates/plate_cases/stdout".into(), run.into_bytes())]).collect()
+}
