@@ -1,4 +1,4 @@
-//! Stations with a name, in words that a reader can follow: the files of `examples/` and the stored runs of the crate `plate_cases`.
+//! Stations with a name, in words that a reader can follow: the files of `examples/` and the stored runs of the program.
 //! `bin/write_examples.rs` writes the files, `compare` holds those that are stored to these.
 #[cfg(source)]
 use crate::plate;
@@ -182,9 +182,9 @@ fn refusals() -> Vec<Vec<u8>> {
     [short, infinite].into_iter().chain(stations.iter().map(Station::input)).collect()
 }
 
-/// The inputs of the crate `plate_cases` in its order: an antenna of each kind, then the refusals.
+/// The inputs of the crate `plate_cases` in its order: an antenna of each type, floors, then the refusals.
 fn cases() -> Vec<Vec<u8>> {
-    let antennas = named().into_iter().filter(|(name, _)| *name != "refused").map(|(_, input)| input);
+    let antennas = named().into_iter().filter(|(name, _)| !["case-p", "refused"].contains(name)).map(|(_, input)| input);
     antennas.chain(refusals()).collect()
 }
 
@@ -192,13 +192,14 @@ fn cases() -> Vec<Vec<u8>> {
 pub fn inputs() -> Vec<(String, Vec<u8>)> {
     let examples = named().into_iter().map(|(name, input)| (format!("examples/{name}.station"), input));
     let cases = ('a'..='z').zip(cases()).map(|(letter, input)| (format!("crates/plate_cases/data/{letter}"), input));
-    examples.chain(cases).collect()
+    examples.chain(cases).chain([("crates/plate/stdin".into(), CASE_P.input())]).collect()
 }
 
 /// The stored texts that the program must write, by the oracle's own `plate`.
 #[cfg(source)]
 pub fn texts() -> Vec<(String, Vec<u8>)> {
     let examples = named().into_iter().map(|(name, input)| (format!("examples/{name}.txt"), plate::output(&input).into_bytes()));
-    let run: String = cases().iter().map(|input| plate::output(input)).collect();
-    examples.chain([("crates/plate_cases/stdout".into(), run.into_bytes())]).collect()
+    let runs = [("plate", vec![CASE_P.input()]), ("plate_empty", vec![vec![]]), ("plate_cases", cases())];
+    let written = |inputs: Vec<Vec<u8>>| inputs.iter().map(|input| plate::output(input)).collect::<String>().into_bytes();
+    examples.chain(runs.map(|(crate_name, inputs)| (format!("crates/{crate_name}/stdout"), written(inputs)))).collect()
 }
