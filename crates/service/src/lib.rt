@@ -3,5 +3,6 @@ mod arrays;
 mod curtains;
 mod leaf;
 mod maximum;
+mod plates;
 mod record;
 mod words;
