@@ -4,6 +4,7 @@ mod curtains;
 mod gains;
 mod leaf;
 mod maximum;
+mod plates;
 mod record;
 mod rows;
 mod search;
