@@ -1,12 +1,10 @@
 -- `gains_over`, by set-up's answer: the gains' words stand behind the search's and fill the rest.
 use mathlib.Core.Path.{_≡_, sym, ap, _∙_}
 use mathlib.Core.List.{List, _++_}
-use Prim.Native.Nat.{ℕ, _+_, _*_, _/_}
+use Prim.Native.Nat.{ℕ, _+_, _/_}
 use native.Mathlib.Omega.{arith}
 use borrow.Author.Needs.{needs}
 use lib.ListN.{length, length-append}
-use Rattle.antenna.specs.Answers.{refused, accepted}
-use Rattle.antenna.specs.SetUp.{setUpOf}
 use Rattle.service.specs.Lists.{left, laid}
 use Rattle.service.specs.Search.{searchWords}
 use Rattle.service.specs.Gains.{gainsTo, gainsLeft}

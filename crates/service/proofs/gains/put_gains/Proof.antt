@@ -1,16 +1,12 @@
 -- `put_gains` answers one direction a turn, in two words.
 use mathlib.Core.Path.{_≡_, refl, ap, _∙_}
-use mathlib.Core.List.{List}
-use Prim.Native.Nat.{ℕ, suc, zero, _+_, _*_, _/_, _≤_, _-_}
+use Prim.Native.Nat.{ℕ, _+_, _*_, _/_, _≤_, _-_}
 use native.Mathlib.Omega.{arith}
 use native.Mathlib.Numerals.{add-one}
 use borrow.Author.Needs.{needs}
-use lib.ListN.{length, length-append}
+use lib.ListN.{length}
 use lib.Seq.{paste-zero}
-use lib.Ieee.{Float}
-use Rattle.antenna.specs.Answers.{Outcome, refused, accepted}
-use Rattle.antenna.specs.Gain.{Kind, gainOf}
-use Rattle.antenna.specs.declared.record.Antenna.{Antenna}
+use Rattle.antenna.specs.Gain.{gainOf}
 use Rattle.model.specs.Ops.{at}
 use Rattle.service.specs.Lists.{laid}
 use Rattle.service.specs.Gains.{gainWords, gainsTo}

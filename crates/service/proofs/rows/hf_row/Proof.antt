@@ -1,11 +1,8 @@
 -- `hf_row`, by set-up's answer and the row's.
-use mathlib.Core.Path.{_≡_, sym, ap, _∙_}
-use mathlib.Core.List.{List}
-use Prim.Native.Nat.{ℕ}
+use mathlib.Core.Path.{_≡_, sym, _∙_}
 use native.Mathlib.Omega.{arith}
 use borrow.Author.Needs.{needs}
 use borrow.Author.Tests.{eq-eqb, ne-eqb}
-use lib.ListN.{length}
 use lib.Seq.{take-all}
 use Rattle.service.specs.Row.{afterSetUp, rowCall}
 use Rattle.service.proofs.SetUps.{ready, turned-away}

@@ -1,5 +1,4 @@
 -- `put_row`, by its match.
-use mathlib.Core.Path.{_≡_}
 use borrow.Author.Needs.{needs}
 use Rattle.antenna.specs.Row.{rowAnswer}
 use Rattle.service.specs.Row.{rowCode, rowWords}
