@@ -1,7 +1,7 @@
 // What Rust and C callers link: the functions of the layers below over plain numbers and slices.
 mod arrays;
-mod curtains;
-mod leaf;
-mod maximum;
-mod record;
+pub mod curtains;
+pub mod leaf;
+pub mod maximum;
+pub mod record;
 mod words;
