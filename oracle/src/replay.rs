@@ -4,6 +4,7 @@
 //! first. What a call leaves alone in lent space is stored as `LEFT`.
 use crate::leaf::{self, NAMES, POWF};
 use crate::random::Random;
+use crate::record::{BYTES, WORDS};
 use crate::{reference, stations};
 
 const LEFT: u32 = 0xA5A5_A5A5;
@@ -71,6 +72,58 @@ fn curtain(random: &mut Random, k: u64) -> Vec<u32> {
     std::iter::once(n as u32).chain(in_room(&floats, 24)).chain([(answer >> 32) as u32, answer as u32]).collect()
 }
 
+/// 57 words, a mode and 56 floats' bits, and one more.
+fn words(random: &mut Random) -> [u32; 58] {
+    let mut words = [0; 58].map(|_: u32| stations::finite(random).to_bits());
+    words[0] = if random.below(8) == 0 { random.pick(&[4, 5, 256, u32::MAX]) } else { random.below(4) as u32 };
+    if random.below(8) == 0 {
+        words[1 + random.below(56) as usize] = random.pick(&[0x7f80_0000, 0xff80_0000, 0x7fc0_0000, 0x7f80_0001, 0xffff_ffff]);
+    }
+    words
+}
+
+/// The numbers of words and of bytes, one of them wrong in one of ten.
+fn lengths(random: &mut Random, k: u64) -> (usize, usize) {
+    match k % 20 {
+        18 => (random.pick(&[0, 1, 56, 58]), BYTES),
+        19 => (WORDS, random.pick(&[0, 1, 224, 226, 232])),
+        _ => (WORDS, BYTES),
+    }
+}
+
+/// Bytes four to a word.
+fn packed(bytes: &[u8; 232]) -> impl Iterator<Item = u32> + '_ {
+    bytes.chunks(4).map(|four| u32::from_be_bytes(four.try_into().expect("232 is a multiple of 4")))
+}
+
+/// The numbers of bytes and of lent words, 232 bytes; the answer, 58 words.
+fn read(random: &mut Random, k: u64) -> Vec<u32> {
+    let (lent, n) = lengths(random, k);
+    let mut bytes = [0; 232];
+    reference::write(&words(random)[..WORDS], &mut bytes[..BYTES]);
+    if random.below(4) == 0 {
+        let any = random.below(BYTES as u64) as usize;
+        bytes[random.pick(&[0, BYTES - 1, any])] ^= 1 << random.below(8);
+    }
+    if random.below(8) == 0 {
+        let start = 4 * random.below(56) as usize;
+        bytes[start] |= 0x07;
+        bytes[start + 1] |= 0xf8;
+    }
+    let mut out = [LEFT; 58];
+    let answer = reference::read(&bytes[..n], &mut out[..lent]);
+    [n as u32, lent as u32].into_iter().chain(packed(&bytes)).chain([answer]).chain(out).collect()
+}
+
+/// The numbers of words and of lent bytes, 58 words; the answer, 232 bytes.
+fn write(random: &mut Random, k: u64) -> Vec<u32> {
+    let (n, lent) = lengths(random, k);
+    let words = words(random);
+    let mut out = [LEFT as u8; 232];
+    let answer = reference::write(&words[..n], &mut out[..lent]);
+    [n as u32, lent as u32].into_iter().chain(words).chain([answer]).chain(packed(&out)).collect()
+}
+
 /// A list: its name, its number of records, its bytes.
 type List = (&'static str, u64, Vec<u8>);
 
@@ -80,7 +133,13 @@ fn made(name: &'static str, seed: u64, count: u64, record: fn(&mut Random, u64) 
 }
 
 fn lists() -> Vec<List> {
-    vec![made("leaf", 21, 2800, leaf), made("maxgain", 22, 160, maxgain), made("curtain", 23, 500, curtain)]
+    vec![
+        made("leaf", 21, 2100, leaf),
+        made("maxgain", 22, 140, maxgain),
+        made("curtain", 23, 480, curtain),
+        made("read", 24, 100, read),
+        made("write", 25, 100, write),
+    ]
 }
 
 /// What the program writes where no answer differs.

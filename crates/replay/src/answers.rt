@@ -1,11 +1,16 @@
 // Each call on the words of a record, and the walk along a list.
+use crate::words::bytes;
 use crate::words::differences;
 use crate::words::floats;
 use crate::words::length_in;
+use crate::words::packed;
+use crate::words::part;
 use crate::words::words_of;
 use service::curtains::hf_curtain;
 use service::leaf::hf_leaf;
 use service::maximum::hf_maxgain;
+use service::record::hf_read;
+use service::record::hf_write;
 ghost use Prim.Native.Nat.{_≤_};
 
 // The calls.
@@ -15,8 +20,14 @@ pub(crate) const MAXGAIN: u32 = 1;
 
 pub(crate) const CURTAIN: u32 = 2;
 
+pub(crate) const READ: u32 = 3;
+
+pub(crate) const WRITE: u32 = 4;
+
 // What a lent word is before a call, so that one which the call leaves alone shows.
 const LEFT: u32 = 0xA5A5_A5A5;
+
+const LEFT_BYTE: u8 = 0xA5;
 
 // How many answers a list has, and how many of them differ.
 pub struct Tally {
@@ -61,12 +72,35 @@ fn curtain_holds(record: &[u32; 128]) -> bool {
     answer / 0x1_0000_0000 == wide(record[25]) && answer % 0x1_0000_0000 == wide(record[26])
 }
 
+// The numbers of bytes and of lent words, 232 bytes; the answer, 58 words.
+fn read_holds(record: &[u32; 128]) -> bool {
+    let given = bytes(record, 2);
+    let n = length_in(record[0], 232);
+    let lent = length_in(record[1], 58);
+    let mut out = [LEFT; 64];
+    let answer = hf_read(&given[..n], &mut out[..lent]);
+    answer == record[60] && differences(record, 61, &out, 58) == 0
+}
+
+// The numbers of words and of lent bytes, 58 words; the answer, 232 bytes.
+fn write_holds(record: &[u32; 128]) -> bool {
+    let given = part(record, 2);
+    let n = length_in(record[0], 58);
+    let lent = length_in(record[1], 232);
+    let mut out = [LEFT_BYTE; 232];
+    let answer = hf_write(&given[..n], &mut out[..lent]);
+    let got = packed(&out);
+    answer == record[60] && differences(record, 61, &got, 58) == 0
+}
+
 // Whether the call answers what the record says; no record of another call does.
 fn holds(call: u32, record: &[u32; 128]) -> bool {
     match call {
         LEAF => leaf_holds(record),
         MAXGAIN => maxgain_holds(record),
         CURTAIN => curtain_holds(record),
+        READ => read_holds(record),
+        WRITE => write_holds(record),
         _ => false,
     }
 }
@@ -79,6 +113,8 @@ fn width(call: u32) -> usize
         LEAF => 16,
         MAXGAIN => 340,
         CURTAIN => 108,
+        READ => 476,
+        WRITE => 476,
         _ => 4,
     }
 }

@@ -32,6 +32,9 @@ fn main() {
     let leaf = run(answers::LEAF, b"leaf");
     let maxgain = run(answers::MAXGAIN, b"maxgain");
     let curtain = run(answers::CURTAIN, b"curtain");
+    let read = run(answers::READ, b"read");
+    let write = run(answers::WRITE, b"write");
+    let gains = add(add(leaf, maxgain), curtain);
     io::write_all(libc::STDOUT_FILENO, b"in all: ");
-    print(add(add(leaf, maxgain), curtain));
+    print(add(gains, add(read, write)));
 }

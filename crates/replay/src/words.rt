@@ -59,6 +59,44 @@ pub(crate) fn floats(from: &[u32; 128], at: usize) -> [f32; 64]
     out
 }
 
+// The low eight bits of a word.
+fn low(word: u32) -> u8 {
+    (word % 256) as u8
+}
+
+// The words of a record from `at` on as bytes, each word's first byte the most significant.
+pub(crate) fn bytes(from: &[u32; 128], at: usize) -> [u8; 232]
+    requires { ⌜ at + 58 ≤ 128 ⌝ }
+{
+    let mut out = [0u8; 232];
+    let mut i: usize = 0;
+    while i < 58 {
+        let word = from[at + i];
+        out[4 * i] = low(word / 0x100_0000);
+        out[4 * i + 1] = low(word / 0x1_0000);
+        out[4 * i + 2] = low(word / 0x100);
+        out[4 * i + 3] = low(word);
+        i += 1;
+    }
+    out
+}
+
+// Bytes as such words, zeros behind them.
+pub(crate) fn packed(from: &[u8; 232]) -> [u32; 64] {
+    let mut out = [0u32; 64];
+    let mut i: usize = 0;
+    while i < 58 {
+        out[i] = joined(
+            from[4 * i],
+            from[4 * i + 1],
+            from[4 * i + 2],
+            from[4 * i + 3],
+        );
+        i += 1;
+    }
+    out
+}
+
 // A length that a record asks for, where there is room for that much.
 pub(crate) fn length_in(word: u32, room: usize) -> usize
     ensures { λ r. ⌜ r ≤ room ⌝ }
