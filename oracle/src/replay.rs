@@ -24,11 +24,19 @@ fn argument(random: &mut Random) -> f32 {
     }
 }
 
-/// The function's number, two words, the answer. One in eight hundred has no function's number.
+/// The function's number, two words, the answer. One in eight hundred has no function's number; the others are mostly in their
+/// function's domain.
 fn leaf(random: &mut Random, k: u64) -> Vec<u32> {
     let which = if k % 800 == 799 { 7 } else { (k % NAMES.len() as u64) as u32 };
-    let a = argument(random).to_bits();
-    let b = if which == POWF { argument(random).to_bits() } else { 0 };
+    let (x, y) = (argument(random), argument(random));
+    let inside = random.below(8) > 0;
+    let a = if inside && [2, 3, POWF, 6].contains(&which) { x.abs() } else { x };
+    let b = match which {
+        POWF if inside => y.abs().fract(),
+        POWF => y,
+        _ => 0.0,
+    };
+    let (a, b) = (a.to_bits(), b.to_bits());
     vec![which, a, b, leaf::by_rules(which, a, b)]
 }
 
@@ -39,10 +47,11 @@ fn maxgain(random: &mut Random, k: u64) -> Vec<u32> {
     floats.extend((0..36).map(|_| random.between(-10.0, 30.0)));
     let mhz = if random.below(8) == 0 { stations::odd(random) } else { random.between(1.0, 31.0) };
     floats.extend([mhz, if random.below(8) == 0 { stations::odd(random) } else { mhz / random.between(0.6, 1.5) }, 1.0]);
-    if random.below(8) == 0 {
-        let at = 20 + random.below(36) as usize;
-        floats[at] = random.pick(&[3e38, -3e38, f32::NAN, f32::INFINITY]);
-        floats[at + 1 - 2 * (at % 2)] = random.pick(&[3e38, -3e38, 0.0]);
+    match k % 12 {
+        // Steps from one gain to the next that are more than a float holds.
+        4 | 5 => (20..56).for_each(|at| floats[at] = if at % 2 == 0 { 3e38 } else { -3e38 }),
+        6 => floats[20 + random.below(36) as usize] = random.pick(&[f32::NAN, f32::INFINITY]),
+        _ => {}
     }
     let (n, lent) = match k % 40 {
         38 => (random.pick(&[0, 57, 59]), 21),
