@@ -133,6 +133,35 @@ fn write(random: &mut Random, k: u64) -> Vec<u32> {
     [n as u32, lent as u32].into_iter().chain(words).chain([answer]).chain(packed(&out)).collect()
 }
 
+/// Degrees: whole, fractions, or odd.
+fn angle(random: &mut Random, high: f32) -> f32 {
+    match random.below(10) {
+        0 => stations::odd(random),
+        1 => random.between(-1000.0, 1000.0),
+        2..=4 => random.between(0.0, high),
+        _ => random.between(0.0, high).round(),
+    }
+}
+
+/// The numbers of parameters, of directions' floats and of lent words, 21 parameters, the maximum gain, 17 floats; the answer, 22
+/// words.
+fn gains(random: &mut Random, k: u64) -> Vec<u32> {
+    let mut parm = stations::station(random).to_vec();
+    parm.push(1.0);
+    let directions: Vec<f32> = (0..17).map(|i| angle(random, if i % 2 == 0 { 90.0 } else { 360.0 })).collect();
+    let giso = stations::giso(random);
+    let (n, m, lent) = match k % 60 {
+        57 => (random.pick(&[0, 19, 21]), 16, 20),
+        58 => (20, random.pick(&[15, 17]), 20),
+        59 => (20, 16, random.pick(&[0, 4, 19, 21, 22])),
+        _ => (20, 16, 20),
+    };
+    let mut out = [LEFT; 22];
+    let answer = reference::gains(&parm[..n], giso, &directions[..m], &mut out[..lent]);
+    let given = [n as u32, m as u32, lent as u32].into_iter().chain(in_room(&parm, 21)).chain([giso.to_bits()]);
+    given.chain(in_room(&directions, 17)).chain([answer]).chain(out).collect()
+}
+
 /// A list: its name, its number of records, its bytes.
 type List = (&'static str, u64, Vec<u8>);
 
@@ -148,6 +177,7 @@ fn lists() -> Vec<List> {
         made("curtain", 23, 480, curtain),
         made("read", 24, 100, read),
         made("write", 25, 100, write),
+        made("gains", 26, 240, gains),
     ]
 }
 

@@ -7,6 +7,7 @@ use crate::words::packed;
 use crate::words::part;
 use crate::words::words_of;
 use service::curtains::hf_curtain;
+use service::gains::hf_gains;
 use service::leaf::hf_leaf;
 use service::maximum::hf_maxgain;
 use service::record::hf_read;
@@ -23,6 +24,8 @@ pub(crate) const CURTAIN: u32 = 2;
 pub(crate) const READ: u32 = 3;
 
 pub(crate) const WRITE: u32 = 4;
+
+pub(crate) const GAINS: u32 = 5;
 
 // What a lent word is before a call, so that one which the call leaves alone shows.
 const LEFT: u32 = 0xA5A5_A5A5;
@@ -93,6 +96,20 @@ fn write_holds(record: &[u32; 128]) -> bool {
     answer == record[60] && differences(record, 61, &got, 58) == 0
 }
 
+// The numbers of parameters, of directions' floats and of lent words, 21 parameters, the maximum
+// gain, 17 floats; the answer, 22 words.
+fn gains_holds(record: &[u32; 128]) -> bool {
+    let parm = floats(record, 3);
+    let n = length_in(record[0], 21);
+    let giso = parm[21];
+    let directions = floats(record, 25);
+    let m = length_in(record[1], 17);
+    let lent = length_in(record[2], 22);
+    let mut out = [LEFT; 64];
+    let answer = hf_gains(&parm[..n], giso, &directions[..m], &mut out[..lent]);
+    answer == record[42] && differences(record, 43, &out, 22) == 0
+}
+
 // Whether the call answers what the record says; no record of another call does.
 fn holds(call: u32, record: &[u32; 128]) -> bool {
     match call {
@@ -101,6 +118,7 @@ fn holds(call: u32, record: &[u32; 128]) -> bool {
         CURTAIN => curtain_holds(record),
         READ => read_holds(record),
         WRITE => write_holds(record),
+        GAINS => gains_holds(record),
         _ => false,
     }
 }
@@ -115,6 +133,7 @@ fn width(call: u32) -> usize
         CURTAIN => 108,
         READ => 476,
         WRITE => 476,
+        GAINS => 260,
         _ => 4,
     }
 }

@@ -34,7 +34,9 @@ fn main() {
     let curtain = run(answers::CURTAIN, b"curtain");
     let read = run(answers::READ, b"read");
     let write = run(answers::WRITE, b"write");
-    let gains = add(add(leaf, maxgain), curtain);
+    let gains = run(answers::GAINS, b"gains");
+    let records = add(read, write);
+    let antennas = add(add(maxgain, curtain), gains);
     io::write_all(libc::STDOUT_FILENO, b"in all: ");
-    print(add(gains, add(read, write)));
+    print(add(leaf, add(records, antennas)));
 }

@@ -51,6 +51,9 @@ module _ (out : List ℕ) (at : ℕ) (xs : List Float) where
       rw (length-map xs (toBits binary32))
       (ap (λ (ws : List ℕ). take at out ++ ws ++ drop (at + length xs) out) (take-all (length xs) (bits xs) (omega (arith, length-map xs (toBits binary32)))))
 
+pub laid-length : (out : List ℕ) (at : ℕ) (ws : List ℕ) → at + length ws ≤ length out → length (laid out at ws) ≡ length out
+laid-length out at ws h = simp (length-append, length-take, length-drop) (omega arith)
+
 -- words laid behind others
 pub laid-more : (out : List ℕ) (at k : ℕ) (ws vs : List ℕ) → k ≡ at + length ws → k ≤ length out → laid (laid out at ws) k vs ≡ laid out at (ws ++ vs)
 laid-more out at k ws vs e h =
@@ -69,3 +72,7 @@ pub laid-first : (x : ℕ) (out ws : List ℕ) → length out ≡ 1 + length ws 
 laid-first x [] ws e = absurd (omega arith)
 laid-first x (y ∷ l) ws e =
     ap (λ (r : List ℕ). x ∷ (ws ++ r)) (drop-of-length-le (x ∷ l) {i = 1 + length ws} (omega arith)) ∙ ap (λ (r : List ℕ). x ∷ r) (append-nil ws)
+
+-- words as many as the list's are all of it
+pub laid-whole : (out ws : List ℕ) → length ws ≡ length out → laid out 0 ws ≡ ws
+laid-whole out ws e = ap (λ (r : List ℕ). ws ++ r) (drop-of-length-le out {i = 0 + length ws} (omega arith)) ∙ append-nil ws

@@ -3,4 +3,7 @@ pub mod Lists
 pub mod Leaf
 pub mod Maximum
 pub mod Curtain
+pub mod Search
+pub mod Gains
+pub mod Row
 pub mod Record

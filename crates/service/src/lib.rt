@@ -1,7 +1,10 @@
 // What Rust and C callers link: the functions of the layers below over plain numbers and slices.
 mod arrays;
 pub mod curtains;
+pub mod gains;
 pub mod leaf;
 pub mod maximum;
 pub mod record;
+pub mod rows;
+mod search;
 mod words;

@@ -1,5 +1,5 @@
 -- `hf_maxgain`, by what it calls.
-use mathlib.Core.Path.{_≡_, ap, _∙_}
+use mathlib.Core.Path.{_∙_}
 use borrow.Author.Needs.{needs}
 use borrow.Author.Tests.{eq-eqb, ne-eqb}
 use Rattle.service.specs.Maximum.{maximumOf, maxgainCall}

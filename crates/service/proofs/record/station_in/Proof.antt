@@ -1,5 +1,4 @@
 -- `station_in`: the last array has all that is left of the floats.
-use mathlib.Core.Path.{_≡_}
 use Prim.Native.Nat.{_≤_}
 use native.Mathlib.Omega.{arith}
 use borrow.Author.Needs.{needs}
