@@ -11,6 +11,8 @@ pub mod random;
 pub mod record;
 #[cfg(source)]
 pub mod reference;
+#[cfg(source)]
+pub mod replay;
 pub mod rules;
 pub mod service;
 #[cfg(source)]

@@ -1,11 +1,11 @@
 // What Rust and C callers link: the functions of the layers below over plain numbers and slices.
 mod arrays;
-mod curtains;
-mod gains;
-mod leaf;
-mod maximum;
-mod plates;
-mod record;
-mod rows;
+pub mod curtains;
+pub mod gains;
+pub mod leaf;
+pub mod maximum;
+pub mod plates;
+pub mod record;
+pub mod rows;
 mod search;
 mod words;

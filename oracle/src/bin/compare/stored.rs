@@ -1,6 +1,9 @@
-//! The stored stations and texts against those that the oracle makes now. `write_examples` writes them.
+//! The stored stations, texts and lists of answers against those that the oracle makes now. `write_examples` and `write_replay` write
+//! them.
 use crate::report::Comparison;
 use oracle::examples;
+#[cfg(source)]
+use oracle::replay;
 
 const ROOT: &str = concat!(env!("CARGO_MANIFEST_DIR"), "/../");
 
@@ -8,7 +11,7 @@ fn held(name: &str, files: Vec<(String, Vec<u8>)>) -> Comparison {
     let mut found = Comparison::new(name);
     for (path, bytes) in files {
         let stored = std::fs::read(format!("{ROOT}{path}")).ok();
-        found.hold(&stored, &Some(bytes), || format!("{path} is missing or another: run write_examples"));
+        found.hold(&stored, &Some(bytes), || format!("{path} is missing or another: run write_examples or write_replay"));
     }
     found
 }
@@ -18,5 +21,7 @@ pub fn compare(_: u64) -> Vec<Comparison> {
         held("stored stations", examples::inputs()),
         #[cfg(source)]
         held("stored texts", examples::texts()),
+        #[cfg(source)]
+        held("stored answers", replay::files()),
     ]
 }
