@@ -7,7 +7,8 @@ pub const POWF: u32 = 4;
 
 pub type Leaf = fn(u32, u32, u32) -> u32;
 
-fn bits(x: f32) -> u32 {
+/// A NaN has no fixed bits.
+pub fn bits(x: f32) -> u32 {
     if x.is_nan() {
         0x7fc0_0000
     } else {

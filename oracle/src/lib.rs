@@ -1,5 +1,6 @@
 //! The judge of the Rattle: document 01's rules written apart from it, the source's Rust over those rules, and the proved library
 //! behind safe wrappers.
+pub mod broken;
 pub mod examples;
 #[cfg(source)]
 pub mod expected;

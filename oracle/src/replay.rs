@@ -1,13 +1,16 @@
 //! The replayed list: the oracle's answers to calls of each kind, a file of big-endian words for each call, which the proved crate
 //! `replay` holds to the library's. `bin/write_replay.rs` writes the files, `compare` holds those that are stored to these.
 //! All records of a call have the same length: a slice has room for one element more than it should have, and its length comes
-//! first. What a call leaves alone in lent space is stored as `LEFT`.
+//! first. What a call leaves alone in lent space is stored as `LEFT`. A second list for each call, `NAME.wrong`, has wrong answers, so
+//! that a replay which finds nothing shows.
+use crate::expected::{ROW, TABLE};
 use crate::leaf::{self, NAMES, POWF};
 use crate::random::Random;
 use crate::record::{BYTES, WORDS};
-use crate::{reference, stations};
+use crate::{broken, reference, stations};
 
 const LEFT: u32 = 0xA5A5_A5A5;
+const LEFT_FLOAT: f32 = 705.0;
 
 /// The floats' bits in the room that a record has for them, zeros behind.
 fn in_room(floats: &[f32], room: usize) -> impl Iterator<Item = u32> + '_ {
@@ -101,8 +104,8 @@ fn lengths(random: &mut Random, k: u64) -> (usize, usize) {
 }
 
 /// Bytes four to a word.
-fn packed(bytes: &[u8; 232]) -> impl Iterator<Item = u32> + '_ {
-    bytes.chunks(4).map(|four| u32::from_be_bytes(four.try_into().expect("232 is a multiple of 4")))
+fn packed(bytes: &[u8]) -> impl Iterator<Item = u32> + '_ {
+    bytes.chunks(4).map(|four| u32::from_be_bytes(four.try_into().expect("a multiple of four bytes")))
 }
 
 /// The numbers of bytes and of lent words, 232 bytes; the answer, 58 words.
@@ -111,13 +114,10 @@ fn read(random: &mut Random, k: u64) -> Vec<u32> {
     let mut bytes = [0; 232];
     reference::write(&words(random)[..WORDS], &mut bytes[..BYTES]);
     if random.below(4) == 0 {
-        let any = random.below(BYTES as u64) as usize;
-        bytes[random.pick(&[0, BYTES - 1, any])] ^= 1 << random.below(8);
+        broken::turn_a_bit(random, &mut bytes[..BYTES]);
     }
     if random.below(8) == 0 {
-        let start = 4 * random.below(56) as usize;
-        bytes[start] |= 0x07;
-        bytes[start + 1] |= 0xf8;
+        broken::break_a_word(random, &mut bytes);
     }
     let mut out = [LEFT; 58];
     let answer = reference::read(&bytes[..n], &mut out[..lent]);
@@ -162,35 +162,97 @@ fn gains(random: &mut Random, k: u64) -> Vec<u32> {
     given.chain(in_room(&directions, 17)).chain([answer]).chain(out).collect()
 }
 
-/// A list: its name, its number of records, its bytes.
-type List = (&'static str, u64, Vec<u8>);
+/// A number that any single word changes, for what is too much to store.
+fn digest(words: impl IntoIterator<Item = u32>) -> u32 {
+    words.into_iter().fold(0, |digest: u32, word| digest.wrapping_mul(31).wrapping_add(word))
+}
 
-fn made(name: &'static str, seed: u64, count: u64, record: fn(&mut Random, u64) -> Vec<u32>) -> List {
+/// The numbers of parameters, of the table's and of the row's floats and of lent words, 21 parameters, the maximum gain, the
+/// elevation; the answer, 6 words, the digests of row and table, each with the float behind what was lent.
+fn row(random: &mut Random, k: u64) -> Vec<u32> {
+    let mut parm = stations::station(random).to_vec();
+    parm.push(1.0);
+    let (giso, elevation) = (stations::giso(random), broken::elevation(random));
+    let (n, t, r, lent) = match k % 30 {
+        26 => (random.pick(&[0, 19, 21]), TABLE, ROW, 5),
+        27 => (20, random.pick(&[0, 2821, TABLE - 1, TABLE + 1]), ROW, 5),
+        28 => (20, TABLE, random.pick(&[0, 359, 361]), 5),
+        29 => (20, TABLE, ROW, random.pick(&[0, 4, 6])),
+        _ => (20, TABLE, ROW, 5),
+    };
+    let (mut table, mut row, mut out) = (vec![LEFT_FLOAT; TABLE + 1], [LEFT_FLOAT; ROW + 1], [LEFT; 6]);
+    let answer = reference::row(&parm[..n], &mut table[..t], giso, elevation, &mut row[..r], &mut out[..lent]);
+    let given = [n, t, r, lent].into_iter().map(|length| length as u32).chain(in_room(&parm, 21));
+    let digests = [digest(row.into_iter().map(leaf::bits)), digest(table.into_iter().map(leaf::bits))];
+    given.chain([giso.to_bits(), elevation.to_bits(), answer]).chain(out).chain(digests).collect()
+}
+
+/// The numbers of bytes and of the text's bytes, 240 bytes; the answer, the digest of the text and the bytes behind it.
+fn plate(random: &mut Random, k: u64) -> Vec<u32> {
+    let mut input = broken::input(random);
+    input.truncate(240);
+    let n = input.len();
+    input.resize(240, 0);
+    let lent = if k % 20 == 19 { random.pick(&[0, 100, 8191]) } else { 8192 + k as usize % 2 };
+    let mut text = [LEFT as u8; 8193];
+    let answer = reference::plate(&input[..n], &mut text[..lent]);
+    let digest = digest(text.map(u32::from));
+    [n as u32, lent as u32].into_iter().chain(packed(&input)).chain([answer as u32, digest]).collect()
+}
+
+/// A call's list: its name, the word that has the answer, the records.
+struct List(&'static str, usize, Vec<Vec<u32>>);
+
+fn made(name: &'static str, seed: u64, count: u64, answer: usize, record: fn(&mut Random, u64) -> Vec<u32>) -> List {
     let mut random = Random(seed);
-    (name, count, (0..count).flat_map(|k| record(&mut random, k)).flat_map(u32::to_be_bytes).collect())
+    List(name, answer, (0..count).map(|k| record(&mut random, k)).collect())
 }
 
 fn lists() -> Vec<List> {
     vec![
-        made("leaf", 21, 2100, leaf),
-        made("maxgain", 22, 140, maxgain),
-        made("curtain", 23, 480, curtain),
-        made("read", 24, 100, read),
-        made("write", 25, 100, write),
-        made("gains", 26, 240, gains),
+        made("leaf", 21, 2100, 3, leaf),
+        made("maxgain", 22, 140, 62, maxgain),
+        made("curtain", 23, 480, 25, curtain),
+        made("read", 24, 100, 60, read),
+        made("write", 25, 100, 60, write),
+        made("gains", 26, 240, 42, gains),
+        made("row", 27, 180, 27, row),
+        made("plate", 28, 100, 62, plate),
     ]
 }
 
-/// What the program writes where no answer differs.
+/// A few of the records, each with a bit of one word turned: of the answer, of one of the eight words behind it, of the last.
+fn wrong(List(_, answer, records): &List) -> Vec<Vec<u32>> {
+    let words = *answer..records[0].len();
+    let turned = words.clone().take(9).chain(words.skip(9).last());
+    let one = |(record, word): (&Vec<u32>, usize)| (0..record.len()).map(|k| record[k] ^ u32::from(k == word)).collect();
+    records.iter().zip(turned).map(one).collect()
+}
+
+/// What the program writes of a list, or of all.
+fn line(name: &str, answers: usize, differ: usize) -> String {
+    format!("{name}: {answers} answers, {differ} differ\n")
+}
+
+/// What the program writes: no right answer differs, each wrong one does.
 fn text(lists: &[List]) -> String {
-    let line = |name: &str, count: u64| format!("{name}: {count} answers, 0 differ\n");
-    let lines: String = lists.iter().map(|(name, count, _)| line(name, *count)).collect();
-    lines + &line("in all", lists.iter().map(|(_, count, _)| count).sum())
+    let all = |count: fn(&List) -> usize| lists.iter().map(count).sum();
+    let right = lists.iter().map(|list| line(list.0, list.2.len(), 0));
+    let right = right.chain([line("right", all(|list| list.2.len()), 0)]);
+    let wrong_ones = lists.iter().map(|list| line(&format!("{}.wrong", list.0), wrong(list).len(), wrong(list).len()));
+    let all_wrong = all(|list| wrong(list).len());
+    right.chain(wrong_ones).chain([line("wrong", all_wrong, all_wrong)]).collect()
+}
+
+fn bytes(records: &[Vec<u32>]) -> Vec<u8> {
+    records.iter().flatten().flat_map(|word| word.to_be_bytes()).collect()
 }
 
 /// The stored lists and the text of their replay: their place below the repository's root, and their bytes.
 pub fn files() -> Vec<(String, Vec<u8>)> {
     let lists = lists();
-    let text = ("crates/replay/stdout".into(), text(&lists).into_bytes());
-    lists.into_iter().map(|(name, _, bytes)| (format!("crates/replay/data/{name}"), bytes)).chain([text]).collect()
+    let place = |name: &str| format!("crates/replay/data/{name}");
+    let right = lists.iter().map(|list| (place(list.0), bytes(&list.2)));
+    let wrong = lists.iter().map(|list| (place(&format!("{}.wrong", list.0)), bytes(&wrong(list))));
+    right.chain(wrong).chain([("crates/replay/stdout".into(), text(&lists).into_bytes())]).collect()
 }

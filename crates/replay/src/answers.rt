@@ -1,4 +1,8 @@
 // Each call on the words of a record, and the walk along a list.
+use crate::large::plate_holds;
+use crate::large::row_holds;
+use crate::words::LEFT;
+use crate::words::LEFT_BYTE;
 use crate::words::bytes;
 use crate::words::differences;
 use crate::words::floats;
@@ -27,10 +31,9 @@ pub(crate) const WRITE: u32 = 4;
 
 pub(crate) const GAINS: u32 = 5;
 
-// What a lent word is before a call, so that one which the call leaves alone shows.
-const LEFT: u32 = 0xA5A5_A5A5;
+pub(crate) const ROW: u32 = 6;
 
-const LEFT_BYTE: u8 = 0xA5;
+pub(crate) const PLATE: u32 = 7;
 
 // How many answers a list has, and how many of them differ.
 pub struct Tally {
@@ -119,6 +122,8 @@ fn holds(call: u32, record: &[u32; 128]) -> bool {
         READ => read_holds(record),
         WRITE => write_holds(record),
         GAINS => gains_holds(record),
+        ROW => row_holds(record),
+        PLATE => plate_holds(record),
         _ => false,
     }
 }
@@ -134,6 +139,8 @@ fn width(call: u32) -> usize
         READ => 476,
         WRITE => 476,
         GAINS => 260,
+        ROW => 144,
+        PLATE => 256,
         _ => 4,
     }
 }

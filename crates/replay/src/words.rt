@@ -5,6 +5,11 @@ ghost use Prim.Native.Nat.{_+_, _≤_};
 ghost use lib.ListN.{length};
 ghost use Rattle.replay.specs.Unequal.{apart, unequal};
 
+// What a lent word is before a call, so that one which the call leaves alone shows.
+pub(crate) const LEFT: u32 = 0xA5A5_A5A5;
+
+pub(crate) const LEFT_BYTE: u8 = 0xA5;
+
 // Four bytes as one number, the first byte the most significant.
 fn joined(a: u8, b: u8, c: u8, d: u8) -> u32 {
     let high = (a as u32) * 256 + (b as u32);
@@ -65,12 +70,12 @@ fn low(word: u32) -> u8 {
 }
 
 // The words of a record from `at` on as bytes, each word's first byte the most significant.
-pub(crate) fn bytes(from: &[u32; 128], at: usize) -> [u8; 232]
-    requires { ⌜ at + 58 ≤ 128 ⌝ }
+pub(crate) fn bytes(from: &[u32; 128], at: usize) -> [u8; 240]
+    requires { ⌜ at + 60 ≤ 128 ⌝ }
 {
-    let mut out = [0u8; 232];
+    let mut out = [0u8; 240];
     let mut i: usize = 0;
-    while i < 58 {
+    while i < 60 {
         let word = from[at + i];
         out[4 * i] = low(word / 0x100_0000);
         out[4 * i + 1] = low(word / 0x1_0000);

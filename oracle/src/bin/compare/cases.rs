@@ -33,13 +33,6 @@ pub fn run(name: &str, seed: u64, count: u64, one: impl Fn(&mut Random, &mut Com
     found
 }
 
-/// Turns a bit of a record, of its first or last byte in two of three.
-pub fn turn_a_bit(random: &mut Random, record: &mut [u8]) {
-    let Some(last) = record.len().checked_sub(1) else { return };
-    let any = random.below(record.len() as u64) as usize;
-    record[random.pick(&[0, last, any])] ^= 1 << random.below(8);
-}
-
 /// What stays in a lent word where nothing is written; as a float it is finite.
 pub const LEFT: u32 = 0xA5A5_A5A5;
 

@@ -1,6 +1,7 @@
 //! The station record: `hf_read` and `hf_write` against the bit by bit ones.
-use crate::cases::{run, turn_a_bit, LEFT};
+use crate::cases::{run, LEFT};
 use crate::report::Comparison;
+use oracle::broken::{break_a_word, turn_a_bit};
 use oracle::random::Random;
 use oracle::record::{BYTES, WORDS};
 use oracle::{reference, service, stations};
@@ -28,22 +29,13 @@ fn length(random: &mut Random) -> usize {
     }
 }
 
-/// Sets the exponent of one of the 56 words, half a byte past its four bytes' start, to that of an infinity or NaN.
-fn break_a_word(random: &mut Random, record: &mut [u8]) {
-    if record.len() == BYTES {
-        let start = 4 * random.below(56) as usize;
-        record[start] |= 0x07;
-        record[start + 1] |= 0xf8;
-    }
-}
-
 fn read(random: &mut Random, found: &mut Comparison) {
     let mut record = vec![0; length(random)];
     reference::write(&words(random), &mut record);
     for _ in 0..random.below(3) {
         turn_a_bit(random, &mut record);
     }
-    if random.below(10) == 0 {
+    if random.below(10) == 0 && record.len() == BYTES {
         break_a_word(random, &mut record);
     }
     let words = if random.below(100) == 0 { random.pick(&[0, 56, 58]) } else { WORDS };

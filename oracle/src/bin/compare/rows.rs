@@ -2,8 +2,9 @@
 use crate::cases::{first_difference, hex, run, LEFT};
 use crate::report::Comparison;
 use oracle::expected::{ROW, TABLE};
+use oracle::leaf::bits;
 use oracle::random::Random;
-use oracle::{reference, service, stations};
+use oracle::{broken, reference, service, stations};
 
 struct Case {
     parm: Vec<f32>,
@@ -12,14 +13,6 @@ struct Case {
     table: usize,
     row: usize,
     words: usize,
-}
-
-fn elevation(random: &mut Random) -> f32 {
-    match random.below(10) {
-        0 => stations::odd(random),
-        1 => random.pick(&[0.0, -0.0, 90.0, 0.5, -1.0, 91.0, 89.999_99]),
-        _ => random.below(91) as f32,
-    }
 }
 
 fn case(random: &mut Random) -> Case {
@@ -32,16 +25,11 @@ fn case(random: &mut Random) -> Case {
         7 => words = random.pick(&[0, 4, 6]),
         _ => {}
     }
-    Case { parm, giso: stations::giso(random), elevation: elevation(random), table, row, words }
+    Case { parm, giso: stations::giso(random), elevation: broken::elevation(random), table, row, words }
 }
 
 /// `hf_row` or the reference.
 type Call = fn(&[f32], &mut [f32], f32, f32, &mut [f32], &mut [u32]) -> u32;
-
-/// A NaN among the table's floats has no fixed bits.
-fn bits(floats: &[f32]) -> impl Iterator<Item = u32> + '_ {
-    floats.iter().map(|x| if x.is_nan() { 0x7fc0_0000 } else { x.to_bits() })
-}
 
 /// The answer, then all lent words: out, row, table.
 fn words_of(case: &Case, call: Call) -> Vec<u32> {
@@ -49,8 +37,8 @@ fn words_of(case: &Case, call: Call) -> Vec<u32> {
     let (mut table, mut row, mut out) = (vec![left; case.table], vec![left; case.row], vec![LEFT; case.words]);
     let mut words = vec![call(&case.parm, &mut table, case.giso, case.elevation, &mut row, &mut out)];
     words.extend(out);
-    words.extend(bits(&row));
-    words.extend(bits(&table));
+    words.extend(row.into_iter().map(bits));
+    words.extend(table.into_iter().map(bits));
     words
 }
 

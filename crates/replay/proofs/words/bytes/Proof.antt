@@ -5,10 +5,10 @@ use Rattle.replay.proofs.words.bytes.Statement.{statement}
 use Rattle.replay.proofs.words.bytes.Tie as tie
 
 abbrev Inv-loop : tie.InvT-loop
-Inv-loop from at out₀ i₀ out i = i ≤ 58
+Inv-loop from at out₀ i₀ out i = i ≤ 60
 
 abbrev μ-loop : tie.MeasureT-loop
-μ-loop from at out₀ i₀ out i = 58 - i
+μ-loop from at out₀ i₀ out i = 60 - i
 
 loop-holds : tie.Need-loop-holds Inv-loop μ-loop
 loop-holds c = omega arith

@@ -1,0 +1,60 @@
+//! Records, and whole inputs of the program, as a careless caller might send them.
+use crate::random::Random;
+use crate::record::{self, BYTES, WORDS};
+use crate::stations;
+
+/// Turns a bit of a record, of its first or last byte in two of three.
+pub fn turn_a_bit(random: &mut Random, record: &mut [u8]) {
+    let Some(last) = record.len().checked_sub(1) else { return };
+    let any = random.below(record.len() as u64) as usize;
+    record[random.pick(&[0, last, any])] ^= 1 << random.below(8);
+}
+
+/// Sets the exponent of one of the 56 words, half a byte past its four bytes' start, to that of an infinity or NaN.
+pub fn break_a_word(random: &mut Random, record: &mut [u8]) {
+    let start = 4 * random.below(56) as usize;
+    record[start] |= 0x07;
+    record[start + 1] |= 0xf8;
+}
+
+/// A row's elevation: mostly whole and 0 to 90.
+pub fn elevation(random: &mut Random) -> f32 {
+    match random.below(10) {
+        0 => stations::odd(random),
+        1 => random.pick(&[0.0, -0.0, 90.0, 0.5, -1.0, 91.0, 89.999_99]),
+        _ => random.below(91) as f32,
+    }
+}
+
+/// Stations of any type with realistic gains, sometimes broken, as a record and three floats.
+fn plate(random: &mut Random) -> Vec<u8> {
+    let parm = stations::station(random);
+    let mut words = [random.pick(&[0, 0, 0, 1, 1, 2, 2, 3]); WORDS];
+    for (word, x) in words[1..].iter_mut().zip(parm) {
+        *word = if x.is_finite() { x.to_bits() } else { 0x4120_0000 };
+    }
+    words[21..].fill_with(|| random.between(-10.0, 25.0).to_bits());
+    if random.below(30) == 0 {
+        words[1 + random.below(56) as usize] = stations::odd(random).to_bits();
+    }
+    let mut bytes = vec![0; BYTES];
+    // Words that can't be written leave zeros, a record too.
+    let _ = record::write(&words, &mut bytes);
+    let frequency = |random: &mut Random| if random.below(15) == 0 { stations::odd(random) } else { random.between(1.0, 31.0) };
+    let elevation = if random.below(12) == 0 { stations::odd(random) } else { random.below(91) as f32 };
+    for x in [frequency(random), frequency(random), elevation] {
+        bytes.extend(x.to_bits().to_be_bytes());
+    }
+    bytes
+}
+
+/// An input of the program; one in twenty is too long, too short or has a bit turned.
+pub fn input(random: &mut Random) -> Vec<u8> {
+    let mut bytes = plate(random);
+    match random.below(40) {
+        0 => bytes.resize(random.pick(&[0, 1, 225, 236, 238, 4096]), 0),
+        1 => turn_a_bit(random, &mut bytes[..BYTES]),
+        _ => {}
+    }
+    bytes
+}
