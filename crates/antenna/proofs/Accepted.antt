@@ -14,12 +14,14 @@ use Rattle.model.specs.Ranges.{allFinite}
 use Rattle.model.specs.Table.{tableSize}
 use Rattle.model.specs.declared.record.Constants.{Constants}
 use Rattle.model.specs.declared.record.Model.{Model}
+use Rattle.model.proofs.Tests.{both}
 use Rattle.ground.specs.Table.{logPeriodic, tableOf}
 use Rattle.logperiodic.specs.Active.{Listed}
 use Rattle.logperiodic.specs.declared.geometry.Boom.{Boom}
-use Rattle.antenna.specs.Answers.{refused, accepted}
+use Rattle.model.specs.Answers.{refused}
 use Rattle.antenna.specs.Copy.{laidOver}
-use Rattle.antenna.specs.Limits.{slot, typeOk, arrayType, bandOk, nelOf, slotsOk, aimOk, startOf, refusalOf}
+use Rattle.model.specs.Limits.{slot, typeOk}
+use Rattle.antenna.specs.Limits.{arrayType, bandOk, nelOf, slotsOk, aimOk, startOf, refusalOf}
 use Rattle.antenna.specs.TypeConstants.{arrayConstants, boomConstants, rhombicConstants, crossedConstants, constantsOf}
 use Rattle.antenna.specs.Search.{gainormOf}
 use Rattle.antenna.specs.SetUp.{modelOf, searchRefused, acceptedOf, found, searched, setUpOf, keptAfter, lentAfter}
@@ -29,10 +31,6 @@ use Rattle.antenna.specs.declared.search.Search.{Search}
 pub next : (b : Bool) (n rest : ℕ) → cond b (suc n) rest ≡ 0 → (b ≡ false) × (rest ≡ 0)
 next true n rest h = let z : _≡_ {A = ℕ} 0 1 = cc in absurd (omega arith)
 next false n rest h = (refl, h)
-
-pub both : (p q : Bool) → (p && q) ≡ true → (p ≡ true) × (q ≡ true)
-both true q h = (refl, h)
-both false q h = let z : _≡_ {A = ℕ} 0 1 = cc in absurd (omega arith)
 
 -- the two counts of the constants
 abbrev CountsIn : Constants → Type 0

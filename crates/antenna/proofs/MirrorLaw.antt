@@ -1,18 +1,15 @@
 -- Demand 3: the mirror law holds.
-use Prim.Native.Nat.{ℕ, _-_, _^_, _≤_}
-use mathlib.Core.Path.{_≡_, refl}
+use Prim.Native.Nat.{ℕ, _-_, _≤_}
+use mathlib.Core.Path.{_≡_}
 use mathlib.Core.Logic.{inl, inr}
-use mathlib.Core.Bool.{true}
 use mathlib.Core.List.{List}
 use native.Mathlib.Omega.{arith}
 use borrow.Author.Tests.{le-leb}
-use lib.Dec.{T, leb→le, le→leb}
+use lib.Dec.{leb→le}
 use lib.IntN.{ℤ, pos, negsuc, negℤ, natAbs}
 use lib.Signed.{_≤ℤ_}
 use lib.ListN.{length}
-use lib.Ieee.{Float, nan, inf, fin, binary32, toSigned, inSigned, inFloat}
-use lib.Ieee.Scale.{finite}
-use lib.Ieee.Back.{positive-back}
+use lib.Ieee.{Float, toSigned}
 use Rattle.model.specs.Ops.{count, +0}
 use Rattle.model.specs.Angle.{jantOf}
 use Rattle.model.specs.declared.record.Model.{Model}
@@ -21,13 +18,15 @@ use Rattle.pattern.proofs.GainrelMirror.{gainRel-mirror}
 use Rattle.pattern.proofs.Slew.{unslewed}
 use Rattle.curtain.specs.Pattrn0.{islewOf}
 use Rattle.curtain.proofs.Unslewed.{curtain-mirror}
-use Rattle.antenna.specs.Limits.{slot, arrayType}
+use Rattle.model.specs.Limits.{slot}
+use Rattle.antenna.specs.Limits.{arrayType}
 use Rattle.antenna.specs.TypeConstants.{arrayConstants, constantsOf}
 use Rattle.antenna.specs.SetUp.{modelOf, lentAfter}
 use Rattle.antenna.specs.Gain.{numberAt, gainOf}
 use Rattle.antenna.specs.MirrorLaw.{Symmetric, MirrorLaw}
 use Rattle.antenna.specs.declared.record.Antenna.{Antenna}
 use Rattle.antenna.proofs.Outcomes.{accepted-model}
+use Rattle.antenna.proofs.RowGains.{azimuth-finite}
 
 -- ---- `ccirgain`
 
@@ -35,16 +34,6 @@ use Rattle.antenna.proofs.Outcomes.{accepted-model}
 no-slew : (iant : ℕ) (p : List Float) → iant ≤ 4 → (b : Boom) → toSigned 31 (slot p 9) ≡ pos 0 → constantsOf iant p b .sl ≡ +0
 unfolding constantsOf arrayType arrayConstants
 no-slew iant p h b e = rw (le-leb iant 4 h) (unslewed (slot p 9) e)
-
-whole-finite : (x : Float) → T (inSigned binary32 31 x) → finite x ≡ true
-unfolding inSigned
-whole-finite nan t = absurd t
-whole-finite (inf s) t = absurd t
-whole-finite (fin s m e) t = refl
-
-azimuth-finite : (v : ℕ) → v ≤ 360 → finite (count v) ≡ true
-unfolding inFloat
-azimuth-finite v h = whole-finite (count v) (positive-back binary32 31 v (le→leb v (2 ^ 24) (omega arith)) (omega arith) .0)
 
 abbrev modelFrom : List Float → Model
 modelFrom p = modelOf (jantOf (slot p 1)) p

@@ -13,19 +13,21 @@ use Rattle.model.specs.Angle.{jantOf}
 use Rattle.model.specs.Ranges.{allFinite}
 use Rattle.model.specs.Counts.{countsOk}
 use Rattle.model.specs.Table.{tableSize}
+use Rattle.model.proofs.Tests.{both}
 use Rattle.ground.specs.Table.{tableOf}
-use Rattle.antenna.specs.Answers.{Outcome, refused, accepted}
-use Rattle.antenna.specs.Limits.{slot, typeOk, startOf, refusalOf}
+use Rattle.model.specs.Answers.{Outcome, refused, accepted}
+use Rattle.model.specs.Limits.{slot, typeOk}
+use Rattle.antenna.specs.Limits.{startOf, refusalOf}
 use Rattle.antenna.specs.Search.{gainormOf}
 use Rattle.antenna.specs.SetUp.{modelOf, searchRefused, acceptedOf, found, searched, setUpOf}
 use Rattle.antenna.specs.Gain.{Kind, graded, numberAt, gainOf}
 use Rattle.antenna.specs.Row.{numbersOf, frontToBack, measured, rowRefusal, rowOf}
 use Rattle.antenna.specs.declared.record.Antenna.{Antenna}
 use Rattle.antenna.specs.declared.search.Search.{Search}
-use Rattle.antenna.proofs.Accepted.{both, set-up-found, found-accepted}
+use Rattle.antenna.proofs.Accepted.{set-up-found, found-accepted}
 
 -- an accepted outcome passed its first test
-passed : {A : Type 0} (b : Bool) (n : ℕ) (rest : Outcome A) {x : A} → cond b (refused n) rest ≡ accepted x → (b ≡ false) × (rest ≡ accepted x)
+pub passed : {A : Type 0} (b : Bool) (n : ℕ) (rest : Outcome A) {x : A} → cond b (refused n) rest ≡ accepted x → (b ≡ false) × (rest ≡ accepted x)
 passed true n rest h = let z : _≡_ {A = ℕ} 0 1 = cc in absurd (omega arith)
 passed false n rest h = (refl, h)
 

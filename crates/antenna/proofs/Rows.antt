@@ -13,8 +13,8 @@ use Rattle.model.specs.Counts.{countsOk}
 use Rattle.model.specs.Ranges.{allFinite}
 use Rattle.model.specs.Table.{tableSize}
 use Rattle.model.specs.declared.record.Model.{Model}
-use Rattle.antenna.specs.Answers.{refused, accepted}
-use Rattle.antenna.specs.Limits.{typeOk}
+use Rattle.model.specs.Answers.{refused, accepted}
+use Rattle.model.specs.Limits.{typeOk}
 use Rattle.antenna.specs.Row.{elevationOk, numbersOf, frontToBack, measured, rowRefusal, rowOf, writtenAfter, rowAfter}
 use Rattle.antenna.specs.declared.record.Antenna.{Antenna}
 use Rattle.antenna.proofs.Accepted.{next}
@@ -24,20 +24,24 @@ neither true q h = let z : _≡_ {A = ℕ} 0 1 = cc in absurd (omega arith)
 neither false q h = (refl, h)
 
 -- what is known where no number has been asked for yet
-pub record Measurable (m : Model) (size n : ℕ) : Type 0 where
+pub record Measurable (m : Model) (size : ℕ) (u giso : Float) (n : ℕ) : Type 0 where
+  pub values : (finite u && finite giso) ≡ true
+  pub type : typeOk (m .iant) ≡ true
   pub counts : countsOk m ≡ true
   pub table : tableSize ≤ size
   pub row : n ≡ 360
 
-pub measurable : (m : Model) (size : ℕ) (u giso : Float) (n : ℕ) → rowRefusal m size u giso n ≡ 0 → Measurable m size n
+pub measurable : (m : Model) (size : ℕ) (u giso : Float) (n : ℕ) → rowRefusal m size u giso n ≡ 0 → Measurable m size u giso n
 unfolding rowRefusal
 measurable m size u giso n h =
-    let h3 = next (not (finite u && finite giso)) 1 _ h .1 in
-    let h6 = next (not (typeOk (m .iant))) 2 _ h3 .1 in
-    let k = next (not (countsOk m)) 5 _ h6 in
+    let v = next (not (finite u && finite giso)) 1 _ h in
+    let t = next (not (typeOk (m .iant))) 2 _ (v .1) in
+    let k = next (not (countsOk m)) 5 _ (t .1) in
     let h8 = next (not (elevationOk u)) 6 _ (k .1) .1 in
     let s = neither (ltb size tableSize) (not (eqb n 360)) (next (ltb size tableSize || not (eqb n 360)) 7 _ h8 .0) in
     record {
+      values = not-false _ (v .0);
+      type = not-false _ (t .0);
       counts = not-false (countsOk m) (k .0);
       table = ltb-false size tableSize (s .0);
       row = eqb-true n 360 (not-false (eqb n 360) (s .1));

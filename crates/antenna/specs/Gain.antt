@@ -12,8 +12,8 @@ use Rattle.model.specs.Counts.{countsOk}
 use Rattle.model.specs.Table.{tableSize}
 use Rattle.model.specs.declared.record.Model.{Model}
 use Rattle.pattern.specs.Gainrel.{gainRel}
-use Rattle.antenna.specs.Answers.{Outcome, refused, accepted}
-use Rattle.antenna.specs.Limits.{typeOk}
+use Rattle.model.specs.Answers.{Outcome, refused, accepted}
+use Rattle.model.specs.Limits.{typeOk}
 use Rattle.antenna.specs.declared.record.Antenna.{Antenna}
 use Rattle.antenna.specs.declared.gain.Gain.{Gain}
 use Rattle.antenna.specs.declared.gain.Gain.the-variants.{Level, Floor, Silence, Refused}

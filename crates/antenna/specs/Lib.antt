@@ -1,7 +1,6 @@
 -- The definitions that contracts cite: one file for each subject.
 pub mod Whole
 pub mod Search
-pub mod Answers
 pub mod Copy
 pub mod Limits
 pub mod TypeConstants

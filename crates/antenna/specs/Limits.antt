@@ -2,39 +2,21 @@
 use Prim.Native.Nat.{ℕ}
 use mathlib.Core.Bool.{Bool, true, cond, not, _&&_, _||_}
 use mathlib.Core.List.{List}
-use lib.ListN.{getD}
 use lib.Dec.{leb, ltb, eqb}
-use lib.Ieee.{Float, nan, neg, toUnsigned}
+use lib.Ieee.{Float, neg, toUnsigned}
+use Rattle.model.specs.Literals.{ninety}
 use Rattle.model.specs.Ops.{+0}
-use Rattle.model.specs.Literals.{literal, one}
-use Rattle.model.specs.Ranges.{between, fromTo, allFinite}
+use Rattle.model.specs.Ranges.{between, allFinite}
+use Rattle.model.specs.Limits.{slot, typeOk, inBand}
 use Rattle.model.specs.Counts.{countOk}
 use Rattle.model.specs.Table.{tableSize}
 use Rattle.ground.specs.Table.{logPeriodic}
 use Rattle.antenna.specs.Search.{fullCircle}
 use Rattle.antenna.specs.declared.record.Peak.{Peak}
 
-abbrev pub thirtyOne : Float
-thirtyOne = literal 0x41f80000
-
-abbrev pub ninety : Float
-ninety = literal 0x42b40000
-
--- slot k of the parameters
-abbrev pub slot : List Float → ℕ → Float
-slot p k = getD p k nan
-
--- types 1 to 9
-unfoldable pub typeOk : ℕ → Bool
-typeOk iant = leb 1 iant && leb iant 9
-
--- of these 1 to 4, with dipole counts and a slew
+-- types 1 to 4, with dipole counts and a slew
 unfoldable pub arrayType : ℕ → Bool
 arrayType iant = leb iant 4
-
--- 5: "≥ 1 and < 31"
-unfoldable pub inBand : Float → Bool
-inBand mhz = fromTo mhz one thirtyOne
 
 -- 5: operating MHz in slot 4, design MHz in slot 7 of types 1 to 4 and in slot 5 of types 8 and 9
 unfoldable pub bandOk : ℕ → List Float → Bool

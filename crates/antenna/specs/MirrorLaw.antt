@@ -13,8 +13,8 @@ use lib.Ieee.Scale.{finite}
 use Rattle.model.specs.Ops.{count}
 use Rattle.model.specs.Angle.{nintOf, jantOf}
 use Rattle.curtain.specs.Answers.{curtainGain}
-use Rattle.antenna.specs.Answers.{accepted}
-use Rattle.antenna.specs.Limits.{slot}
+use Rattle.model.specs.Answers.{accepted}
+use Rattle.model.specs.Limits.{slot}
 use Rattle.antenna.specs.SetUp.{setUpOf, lentAfter}
 use Rattle.antenna.specs.Gain.{gainOf}
 use Rattle.antenna.specs.declared.record.Antenna.{Antenna}

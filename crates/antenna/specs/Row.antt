@@ -1,19 +1,21 @@
 -- Document 01, part 9: the plate row, with its refusals. Definitions only.
-use Prim.Native.Nat.{ℕ, zero, suc}
+use Prim.Native.Nat.{ℕ}
 use mathlib.Core.Bool.{Bool, cond, not, _&&_, _||_}
 use mathlib.Core.List.{List}
-use lib.ListN.{length, getD, set, replicate}
+use lib.ListN.{length, getD}
 use lib.Dec.{ltb, eqb}
 use lib.Ieee.{Float, nan, eq}
 use lib.Ieee.Scale.{finite}
+use Rattle.model.specs.Literals.{ninety}
 use Rattle.model.specs.Ops.{_⊖_, count, +0}
 use Rattle.model.specs.Ranges.{between, allFinite}
 use Rattle.model.specs.Counts.{countsOk}
 use Rattle.model.specs.Table.{tableSize}
+use Rattle.model.specs.Filled.{filledTo}
 use Rattle.model.specs.declared.record.Model.{Model}
-use Rattle.antenna.specs.Answers.{Outcome, refused, accepted}
+use Rattle.model.specs.Answers.{Outcome, refused, accepted}
 use Rattle.antenna.specs.Whole.{wholeOf}
-use Rattle.antenna.specs.Limits.{ninety, typeOk}
+use Rattle.model.specs.Limits.{typeOk}
 use Rattle.antenna.specs.Gain.{numberAt}
 use Rattle.antenna.specs.declared.record.Antenna.{Antenna}
 use Rattle.antenna.specs.declared.row.PlateRow.{PlateRow}
@@ -24,9 +26,8 @@ unfoldable pub elevationOk : Float → Bool
 elevationOk u = between u +0 ninety && eq u (wholeOf u)
 
 -- the `ccirgain` numbers at azimuths 0 to n - 1, in a row of 360
-unfoldable pub rowTo : Model → Float → List Float → Float → Float → ℕ → List Float
-rowTo m z6 t u giso zero = replicate 360 +0
-rowTo m z6 t u giso (suc v) = set (rowTo m z6 t u giso v) v (numberAt m z6 t u (count v) giso)
+abbrev pub rowTo : Model → Float → List Float → Float → Float → ℕ → List Float
+rowTo m z6 t u giso n = filledTo (λ (v : ℕ). numberAt m z6 t u (count v) giso) 360 n
 
 unfoldable pub numbersOf : Antenna → List Float → Float → Float → List Float
 numbersOf a t u giso = rowTo (a .model) (a .peak .z6) t u giso 360

@@ -16,10 +16,11 @@ use Rattle.ground.specs.Table.{logPeriodic, tableOf}
 use Rattle.logperiodic.specs.LogPeriodic.{logParm}
 use Rattle.logperiodic.specs.declared.geometry.Design.{Design}
 use Rattle.logperiodic.specs.declared.logparm.LogPeriodic.{LogPeriodic}
-use Rattle.antenna.specs.Answers.{Outcome, refused, accepted}
+use Rattle.model.specs.Answers.{Outcome, refused, accepted}
 use Rattle.antenna.specs.Copy.{laidOver}
 use Rattle.antenna.specs.Whole.{nonZero}
-use Rattle.antenna.specs.Limits.{slot, nelOf, arrayType, startOf, refusalOf}
+use Rattle.model.specs.Limits.{slot}
+use Rattle.antenna.specs.Limits.{nelOf, arrayType, startOf, refusalOf}
 use Rattle.antenna.specs.TypeConstants.{rlambdaOf, betaOf, constantsOf}
 use Rattle.antenna.specs.Search.{gainormOf}
 use Rattle.antenna.specs.declared.record.Antenna.{Antenna}

@@ -10,12 +10,12 @@ use Rattle.numeric.specs.Sine.{sine, cosine}
 use Rattle.numeric.specs.Logarithm.{binaryLogarithm, log10Of}
 use Rattle.numeric.specs.Root.{sqrtOf}
 use Rattle.model.specs.Ops.{_⊕_, _⊖_, +0, at}
-use Rattle.model.specs.Literals.{literal, one, two, four, ten, thirty}
+use Rattle.model.specs.Literals.{literal, one, two, four, ten, thirty, thirtyOne}
 use Rattle.model.specs.Angle.{nintOf}
 use Rattle.maxgain.specs.Interpolation.{gainTerB}
 use Rattle.maxgain.specs.Maximum.{tuned}
-use Rattle.curtain.specs.Answers.{level, curtainGain}
-use Rattle.antenna.specs.Limits.{thirtyOne}
+use Rattle.curtain.specs.Answers.{curtainGain}
+use Rattle.model.specs.Answers.{accepted}
 use Rattle.antenna.specs.Gain.{floorRatio, floored, ratioLevel, decibelsOf}
 
 -- a curtain's parameters: slots 4 and 7 at 10, all others 0
@@ -48,5 +48,5 @@ pub record StarredEdges : Type 0 where
   pub ratio : ratioLevel floorRatio ≡ neg thirty
   pub ratio-added : (giso : Float) → decibelsOf floorRatio one giso ≡ floored (neg thirty ⊕ giso)
   -- the curtain, factor 1, elevation 0: -1000 at azimuth 0, -1020 at 180
-  pub curtain-0 : curtainGain bareCurtain +0 +0 one ≡ level (neg (literal 0x447a0000))
-  pub curtain-180 : curtainGain bareCurtain (literal 0x43340000) +0 one ≡ level (neg (literal 0x447f0000))
+  pub curtain-0 : curtainGain bareCurtain +0 +0 one ≡ accepted (neg (literal 0x447a0000))
+  pub curtain-180 : curtainGain bareCurtain (literal 0x43340000) +0 one ≡ accepted (neg (literal 0x447f0000))

@@ -12,7 +12,8 @@ use Rattle.model.specs.declared.record.Constants.{Constants}
 use Rattle.ground.specs.Table.{logPeriodic}
 use Rattle.logperiodic.specs.declared.geometry.Boom.{Boom}
 use Rattle.antenna.specs.Whole.{wholeOf}
-use Rattle.antenna.specs.Limits.{slot, arrayType}
+use Rattle.model.specs.Limits.{slot}
+use Rattle.antenna.specs.Limits.{arrayType}
 
 -- d1 = 18000 s1 / f1
 abbrev pub d1Of : List Float → Float

@@ -1,7 +1,7 @@
 // `ccirgain`: the gain at a direction, with its kind.
-use crate::limits::type_ok;
 use crate::record::Antenna;
 use model::counts::counts_ok;
+use model::limits::type_ok;
 use pattern::gainrel::gainrel;
 ghost use mathlib.Core.Path.{_≡_};
 ghost use Rattle.antenna.specs.Gain.{floored, ratioLevel, decibelsOf, graded, gainOf, gainAnswer};

@@ -1,18 +1,13 @@
 // The limits of set-up's parameters: document 01's refusals 2, 3, 5, 6, 7 and 8.
 use crate::record::Peak;
 use model::counts::count_ok;
+use model::limits::in_band;
+use model::limits::type_ok;
 use model::range::all_finite;
 use model::range::is_between;
-use model::range::is_from_to;
 ghost use mathlib.Core.Path.{_≡_};
 ghost use Rattle.ground.specs.Table.{logPeriodic};
-ghost use Rattle.antenna.specs.Limits.{typeOk, arrayType, inBand, bandOk, slotsOk, startOf, startOk, aimOk, refusalOf};
-
-pub(crate) fn type_ok(iant: u32) -> bool
-    ensures { λ r. ⌜ r ≡ typeOk iant ⌝ }
-{
-    (1 <= iant) & (iant <= 9)
-}
+ghost use Rattle.antenna.specs.Limits.{arrayType, bandOk, slotsOk, startOf, startOk, aimOk, refusalOf};
 
 // Types 1 to 4.
 pub(crate) fn array_type(iant: u32) -> bool
@@ -25,12 +20,6 @@ pub(crate) fn log_periodic(iant: u32) -> bool
     ensures { λ r. ⌜ r ≡ logPeriodic iant ⌝ }
 {
     (iant == 5) | (iant == 6)
-}
-
-fn in_band(mhz: f32) -> bool
-    ensures { λ r. ⌜ r ≡ inBand mhz ⌝ }
-{
-    is_from_to(mhz, 1.0, 31.0)
 }
 
 // Operating and design MHz.

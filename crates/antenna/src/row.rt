@@ -1,10 +1,10 @@
 // The plate row: the numbers of `ccirgain` around one elevation, with front-to-back.
 use crate::copy::lay_over;
 use crate::gain::decibels;
-use crate::limits::type_ok;
 use crate::record::Antenna;
 use crate::whole::truncated;
 use model::counts::counts_ok;
+use model::limits::type_ok;
 use model::range::all_finite;
 use model::range::is_between;
 use model::record::Model;

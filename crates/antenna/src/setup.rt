@@ -29,7 +29,7 @@ ghost use mathlib.Core.Bool.{true};
 ghost use lib.ListN.{length};
 ghost use Rattle.model.specs.Counts.{countsOk};
 ghost use Rattle.logperiodic.specs.Active.{Listed};
-ghost use Rattle.antenna.specs.Answers.{refused};
+ghost use Rattle.model.specs.Answers.{refused};
 ghost use Rattle.antenna.specs.Limits.{slotsOk};
 ghost use Rattle.antenna.specs.SetUp.{designOf, noElements, elementsOf, slewedOf, modelOf, searchRefused, acceptedOf, setUpOf, setUpAnswer, lentAfter};
 

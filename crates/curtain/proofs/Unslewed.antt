@@ -1,5 +1,5 @@
 -- Demand 3 for the curtain: one whose rounded slew is -3 to 3 answers alike at an azimuth and at its negative.
-use mathlib.Core.Path.{_≡_, refl, sym}
+use mathlib.Core.Path.{_≡_, refl}
 use mathlib.Core.Bool.{false}
 use mathlib.Core.List.{List, [], _∷_}
 use Prim.Native.Nat.{ℕ, zero, suc, _≤_}
@@ -14,7 +14,8 @@ use Rattle.model.proofs.Negation.{mul-neg-left}
 use Rattle.model.proofs.Opposites.{mul-opposite-right}
 use Rattle.curtain.specs.Literals.{D2R}
 use Rattle.curtain.specs.Excitation.{phaseAt, slewStep, signed, bayphs}
-use Rattle.curtain.specs.Pattrn0.{islewOf, nbsOf, odratOf, filledTo, bayPhases, curtainOf}
+use Rattle.model.specs.Filled.{filledTo}
+use Rattle.curtain.specs.Pattrn0.{islewOf, nbsOf, odratOf, bayPhases, curtainOf}
 use Rattle.curtain.specs.Level.{levelOf}
 use Rattle.curtain.specs.Answers.{valueRefused, curtainGain}
 use Rattle.curtain.proofs.Mirror.{Unphased, f2-mirror, iaz-neg, folded-neg}

@@ -5,8 +5,8 @@ use lib.Dec.{eqb}
 use lib.Ieee.{Float, neg}
 use Rattle.numeric.specs.Sine.{cosine}
 use Rattle.model.specs.Ops.{_⊕_, _⊗_, _⊘_, +0}
-use Rattle.model.specs.Literals.{two}
-use Rattle.curtain.specs.Literals.{D2R, ninety}
+use Rattle.model.specs.Literals.{two, ninety}
+use Rattle.curtain.specs.Literals.{D2R}
 use Rattle.curtain.specs.Pattern.{f2}
 use Rattle.curtain.specs.declared.pattern.Curtain.{Curtain}
 

@@ -25,6 +25,3 @@ D2R = literal 0x3c8efa35
 -- 1.0e-12
 abbrev pub tiny : Float
 tiny = literal 0x2b8cbccc
-
-abbrev pub ninety : Float
-ninety = literal 0x42b40000

@@ -1,21 +1,20 @@
 -- From the twenty parameters to what the pattern is computed from: the source's `gain` up to `PATTRN0`'s tables. Definitions only.
-use Prim.Native.Nat.{ℕ, zero, suc, min, max}
+use Prim.Native.Nat.{ℕ, min, max}
 use mathlib.Core.Bool.{cond}
 use mathlib.Core.List.{List}
 use lib.IntN.{ℤ, natAbs}
-use lib.ListN.{getD, set, replicate}
-use lib.Ieee.{Float, nan, neg, lt}
+use lib.ListN.{set}
+use lib.Ieee.{Float, neg, lt}
 use Rattle.numeric.specs.Sine.{cosine}
 use Rattle.model.specs.Ops.{_⊕_, _⊗_, _⊘_, count, +0}
 use Rattle.model.specs.Literals.{one, two}
 use Rattle.model.specs.Angle.{nintOf, natural}
+use Rattle.model.specs.Limits.{slot}
+use Rattle.model.specs.Filled.{filledTo}
 use Rattle.curtain.specs.Literals.{VOFL, PI2, D2R}
 use Rattle.curtain.specs.Excitation.{stkrat, bayphs}
 use Rattle.curtain.specs.declared.pattern.Curtain.{Curtain}
 use Rattle.curtain.specs.declared.pattrn0.Lengths.{Lengths}
-
-abbrev pub slot : List Float → ℕ → Float
-slot parm k = getD parm k nan
 
 -- ---- the counts
 
@@ -60,11 +59,6 @@ unfoldable pub odratOf : List Float → Float
 odratOf parm = D2R ⊗ slot parm 4 ⊘ slot parm 7
 
 -- ---- the tables
-
--- a table of zeros after its first n entries were set, v i at i
-unfoldable pub filledTo : (ℕ → Float) → ℕ → ℕ → List Float
-filledTo v size zero = replicate size +0
-filledTo v size (suc n) = set (filledTo v size n) n (v n)
 
 -- stacks: c has `stkrat`, whose slots from nostak on are zeroed and not read; z the heights
 unfoldable pub stackRatios : ℕ → ℕ → List Float

@@ -1,7 +1,7 @@
 // Why a curtain is refused before its level is computed.
+use model::limits::in_band;
 use model::range::all_finite;
 use model::range::is_between;
-use model::range::is_from_to;
 use numeric::float::is_finite;
 ghost use mathlib.Core.Path.{_≡_};
 ghost use Rattle.curtain.specs.Answers as Answers;
@@ -11,12 +11,6 @@ pub fn value_refused(parm: [f32; 20], azimd: f32, elevd: f32, gnorm: f32) -> boo
     ensures { λ r. ⌜ r ≡ Answers.valueRefused parm azimd elevd gnorm ⌝ }
 {
     !(all_finite(&parm) & is_finite(azimd) & is_finite(elevd) & is_finite(gnorm))
-}
-
-fn in_band(mhz: f32) -> bool
-    ensures { λ r. ⌜ r ≡ Answers.inBand mhz ⌝ }
-{
-    is_from_to(mhz, 1.0, 31.0)
 }
 
 // 5: operating or design MHz.

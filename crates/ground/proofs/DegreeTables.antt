@@ -1,32 +1,13 @@
 -- What `trigfun`'s tables hold: the sines and cosines of the whole degrees, but for the three doctored entries.
-use Prim.Native.Nat.{ℕ, zero, suc, _≤_, _<_}
-use mathlib.Core.Path.{_≡_, refl, _∙_}
+use Prim.Native.Nat.{ℕ, _<_}
+use mathlib.Core.Path.{_≡_, _∙_}
 use mathlib.Core.List.{List}
-use mathlib.Core.Logic.{⊎-elim}
-use native.Mathlib.Nat.{eq-or-lt-of-le}
 use native.Mathlib.Omega.{arith}
 use lib.ListN.{length, getD, set, length-set}
 use lib.Seq.{getD-set-same, getD-set-other}
 use lib.Ieee.{Float, nan}
-use Rattle.ground.specs.Filled.{filledTo}
+use Rattle.model.proofs.Filled.{filled-length, filled-at}
 use Rattle.ground.specs.Trig.{DegreeTables, trigTables, sinesTo, cosinesTo}
-
-module _ (v : ℕ → Float) where
-  filled-length : (n : ℕ) → length (filledTo v n) ≡ 91
-  unfolding filledTo
-  filled-length zero = refl
-  filled-length (suc n) = rw length-set (filled-length n)
-
-  filled-at : (n u : ℕ) → n ≤ 91 → u < n → getD (filledTo v n) u nan ≡ v u
-  unfolding filledTo
-  filled-at zero u h l = absurd (omega arith)
-  filled-at (suc n) u h l =
-      let inside : n < length (filledTo v n) = rw (filled-length n) h in
-      let le : u ≤ n = omega arith in
-      ⊎-elim
-      (λ (e : u ≡ n). rw e (getD-set-same (filledTo v n) n (v n) nan inside))
-      (λ (lt : u < n). getD-set-other (filledTo v n) n u (v n) nan (λ (e : u ≡ n). omega arith) ∙ filled-at n u (omega arith) lt)
-      (eq-or-lt-of-le le)
 
 -- a table with new ends: x at 90, then y at 0
 module _ (l : List Float) (x y : Float) where
@@ -45,9 +26,9 @@ degree-tables =
     let a : 90 < length (sinesTo 91) = rw filled-length (omega arith) in
     let b : 90 < length (cosinesTo 91) = rw filled-length (omega arith) in
     record {
-      sine-of = λ z h. getD-set-other (sinesTo 91) 90 z _ nan (λ e. omega arith) ∙ filled-at _ 91 z (omega arith) (omega arith);
+      sine-of = λ z h. getD-set-other (sinesTo 91) 90 z _ nan (λ e. omega arith) ∙ filled-at _ 91 91 z (omega arith) (omega arith);
       sine-90 = getD-set-same (sinesTo 91) 90 _ nan a;
-      cosine-of = λ z l h. between-ends (cosinesTo 91) _ _ z l h ∙ filled-at _ 91 z (omega arith) (omega arith);
+      cosine-of = λ z l h. between-ends (cosinesTo 91) _ _ z l h ∙ filled-at _ 91 91 z (omega arith) (omega arith);
       cosine-90 = last-end (cosinesTo 91) _ _ b;
       cosine-0 = first-end (cosinesTo 91) _ _ b;
     }

@@ -5,16 +5,17 @@ use mathlib.Core.Bool.{Bool, true, false, cond}
 use mathlib.Core.List.{List}
 use native.Mathlib.Numerals.{add-one}
 use native.Mathlib.Omega.{arith}
-use lib.ListN.{length, getD, length-set, length-replicate, getD-replicate}
+use lib.ListN.{length, getD, length-set, getD-replicate}
 use lib.Seq.{getD-set-other}
 use lib.Ieee.{Float, nan}
 use Rattle.model.specs.Counts.{countsOk}
 use Rattle.model.specs.Ops.{+0}
-use Rattle.model.specs.Table.{tableSize, cell}
+use Rattle.model.specs.Table.{tableSize, cell, blankTable}
 use Rattle.model.specs.declared.record.Entry.{Entry}
 use Rattle.model.specs.declared.record.Model.{Model}
+use Rattle.model.proofs.Filled.{blank-length}
 use Rattle.model.proofs.ActiveElements.{active-below, active-named}
-use Rattle.ground.specs.Table.{withEntry, entryAt, rowTo, elevationsTo, blankTable, logPeriodic, tableOf}
+use Rattle.ground.specs.Table.{withEntry, entryAt, rowTo, elevationsTo, logPeriodic, tableOf}
 
 with-length : (t : List Float) (u i : ℕ) (e : Entry) → length (withEntry t u i e) ≡ length t
 unfolding withEntry
@@ -44,10 +45,6 @@ module _ (m : Model) where
   unfolding elevationsTo
   elevations-length t zero = refl
   elevations-length t (suc n) = row-length (entryAt m n) (m .elements .iek) n (elevationsTo m t n) (m .elements .nat) ∙ elevations-length t n
-
-  blank-length : length blankTable ≡ tableSize
-  unfolding blankTable
-  blank-length = length-replicate tableSize +0
 
   pub table-length : length (tableOf m) ≡ tableSize
   unfolding tableOf

@@ -12,7 +12,7 @@ use Rattle.model.specs.declared.record.Constants.{Constants}
 use Rattle.model.specs.declared.record.Factors.{Factors}
 use Rattle.model.specs.declared.record.Ground.{Ground}
 use Rattle.model.specs.declared.record.Trig.{Trig}
-use Rattle.ground.specs.Filled.{filledTo}
+use Rattle.model.specs.Filled.{filledTo}
 use Rattle.ground.specs.Reflection.{refCof}
 use Rattle.ground.specs.declared.reflection.Reflection.{Reflection}
 use Rattle.ground.specs.declared.factors.Stack.{Stack}
@@ -80,12 +80,12 @@ factorsOn iant k t u = factorsAt iant k (getD (t .a) u nan) (getD (t .b) u nan)
 -- the tables of the elevations below n
 unfoldable pub groundTo : ℕ → Constants → Trig → ℕ → Ground
 groundTo iant k t n = record {
-  w3 = filledTo (λ (u : ℕ). factorsOn iant k t u .w3) n;
-  w4 = filledTo (λ (u : ℕ). factorsOn iant k t u .w4) n;
-  w5 = filledTo (λ (u : ℕ). factorsOn iant k t u .w5) n;
-  w6 = filledTo (λ (u : ℕ). factorsOn iant k t u .w6) n;
-  w9 = filledTo (λ (u : ℕ). factorsOn iant k t u .w9) n;
-  w10 = filledTo (λ (u : ℕ). factorsOn iant k t u .w10) n;
+  w3 = filledTo (λ (u : ℕ). factorsOn iant k t u .w3) 91 n;
+  w4 = filledTo (λ (u : ℕ). factorsOn iant k t u .w4) 91 n;
+  w5 = filledTo (λ (u : ℕ). factorsOn iant k t u .w5) 91 n;
+  w6 = filledTo (λ (u : ℕ). factorsOn iant k t u .w6) 91 n;
+  w9 = filledTo (λ (u : ℕ). factorsOn iant k t u .w9) 91 n;
+  w10 = filledTo (λ (u : ℕ). factorsOn iant k t u .w10) 91 n;
 }
 
 unfoldable pub groundOf : ℕ → Constants → Trig → Ground

@@ -1,5 +1,4 @@
 -- The definitions that contracts cite: one file for each subject.
-pub mod Filled
 pub mod Trig
 pub mod Reflection
 pub mod Ground

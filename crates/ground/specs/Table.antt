@@ -2,20 +2,17 @@
 use Prim.Native.Nat.{ℕ, zero, suc}
 use mathlib.Core.Bool.{Bool, cond, _||_}
 use mathlib.Core.List.{List}
-use lib.ListN.{getD, set, replicate}
+use lib.ListN.{getD, set}
 use lib.Dec.{eqb}
 use lib.Ieee.{Float, nan}
 use Rattle.numeric.specs.Sine.{sine, cosine}
 use Rattle.model.specs.Ops.{_⊕_, _⊖_, _⊗_, _⊘_, +0}
 use Rattle.model.specs.Literals.{one, two}
-use Rattle.model.specs.Table.{tableSize, cell}
+use Rattle.model.specs.Table.{cell, blankTable}
 use Rattle.model.specs.declared.record.Entry.{Entry}
 use Rattle.model.specs.declared.record.Model.{Model}
 use Rattle.ground.specs.Reflection.{refCof}
 use Rattle.ground.specs.declared.reflection.Reflection.{Reflection}
-
-unfoldable pub blankTable : List Float
-blankTable = replicate tableSize +0
 
 -- one element's `ww1` to `ww4` at one elevation, put into the table
 unfoldable pub withEntry : List Float → ℕ → ℕ → Entry → List Float

@@ -8,14 +8,14 @@ use Rattle.numeric.specs.Sine.{sine, cosine}
 use Rattle.model.specs.Ops.{_⊗_, count}
 use Rattle.model.specs.Literals.{literal, q1}
 use Rattle.model.specs.declared.record.Trig.{Trig}
-use Rattle.ground.specs.Filled.{filledTo}
+use Rattle.model.specs.Filled.{filledTo}
 
 -- the sines and the cosines of the whole degrees below n
 abbrev pub sinesTo : ℕ → List Float
-sinesTo n = filledTo (λ (z : ℕ). sine (count z ⊗ q1)) n
+sinesTo n = filledTo (λ (z : ℕ). sine (count z ⊗ q1)) 91 n
 
 abbrev pub cosinesTo : ℕ → List Float
-cosinesTo n = filledTo (λ (z : ℕ). cosine (count z ⊗ q1)) n
+cosinesTo n = filledTo (λ (z : ℕ). cosine (count z ⊗ q1)) 91 n
 
 -- the doctored entries: a(90) is the sine of 90.05 degrees
 abbrev pub sine90 : Float

@@ -6,6 +6,7 @@ use model::record::Elements;
 use model::record::Ground;
 use model::record::Model;
 use model::record::Trig;
+use model::table::blank_table;
 ghost use mathlib.Core.Path.{_≡_};
 ghost use mathlib.Core.Bool.{true};
 ghost use Prim.Native.Nat.{ℕ, _≤_, _<_};
@@ -14,7 +15,7 @@ ghost use lib.Ieee.{nan};
 ghost use Rattle.model.specs.Ops.{_⊗_};
 ghost use Rattle.model.specs.Counts.{elementsOk, countsOk};
 ghost use Rattle.ground.specs.Ground.{groundOf};
-ghost use Rattle.ground.specs.Table.{entryOf, rowTo, elevationsTo, blankTable, logPeriodic, tableOf};
+ghost use Rattle.ground.specs.Table.{entryOf, rowTo, elevationsTo, logPeriodic, tableOf};
 
 // The tables of every type but 5 and 6.
 pub fn ground_of(iant: u32, k: Constants, t: Trig) -> Ground
@@ -81,12 +82,6 @@ fn fill_elevations(t: &mut [f32; 11284], m: Model)
         fill_row(t, u, m.iant, r, delta, elements);
         u += 1;
     }
-}
-
-fn blank_table() -> [f32; 11284]
-    ensures { λ r. ⌜ r ≡ blankTable ⌝ }
-{
-    [0.0f32; 11284]
 }
 
 fn log_periodic(iant: u32) -> bool

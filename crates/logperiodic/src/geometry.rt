@@ -3,7 +3,7 @@
 ghost use mathlib.Core.Path.{_≡_};
 ghost use Prim.Native.Nat.{_<_, _≤_};
 ghost use lib.ListN.{length};
-ghost use Rattle.logperiodic.specs.Geometry.{boom, taper, lengthsTo, lengths, spacing, alongTo, along, apex, raisedTo, raised, vertical, horizontal, layout};
+ghost use Rattle.logperiodic.specs.Geometry.{boom, taper, lengths, spacing, along, apex, raised, vertical, horizontal, layout};
 
 // The design: lengths and heights of the longest element, nel, and of the shortest, the distance
 // between them, and the feeder's impedance.

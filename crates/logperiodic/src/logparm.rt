@@ -18,7 +18,7 @@ use crate::geometry::layout_of;
 use crate::geometry::taper_of;
 use model::record::Elements;
 ghost use mathlib.Core.Path.{_≡_};
-ghost use Prim.Native.Nat.{_<_, _≤_};
+ghost use Prim.Native.Nat.{_≤_};
 ghost use Rattle.logperiodic.specs.Active.{Listed};
 ghost use Rattle.logperiodic.specs.LogPeriodic.{fed, elements, logParm};
 

@@ -8,7 +8,8 @@ use lib.Dec.{ltb, eqb}
 use lib.IntN.{pos}
 use lib.Ieee.{Float, nan, inf, fin, up, down, lt, le, eq, ofBits, toUnsigned}
 use Rattle.model.specs.Ranges.{fromTo}
-use Rattle.maxgain.specs.Interpolation.{inBand}
+use Rattle.model.specs.Limits.{inBand}
+use Rattle.model.proofs.Tests.{both}
 use lib.Ieee.Fits.{down-pos}
 use borrow.Author.Tests.{ltb-true, eqb-true, ne-eqb}
 
@@ -53,10 +54,6 @@ cut-from w a (fin false m e) z f h =
     let u : a * down e ≤ m * up e = simp mul-one at (at-most (a * 1 * down e) (m * up e * 1) h) in
     let q : a ≤ m * up e / down e = le-div-iff-mul-le (down-pos e) .1 u in
     omega arith
-
-both : (p q : Bool) → (p && q) ≡ true → (p ≡ true) × (q ≡ true)
-both true q h = (refl, h)
-both false q h = absurd (false≢true h)
 
 -- a frequency in the band has 1 to 30 whole MHz
 pub cut-band : (x : Float) → inBand x ≡ true → (1 ≤ toUnsigned 64 x) × (toUnsigned 64 x < 31)

@@ -4,15 +4,14 @@ use mathlib.Core.List.{List}
 use lib.Ieee.{Float, binary32, add, sub, div, lt, le, eq, round, ofBits, ofInt, toUnsigned}
 use lib.Ieee.Fits.{sub-fits}
 use Rattle.model.specs.Ops.{_⊕_, _⊖_, count, at}
-use Rattle.model.specs.Literals.{one, ten, thirty}
+use Rattle.model.specs.Literals.{one, ten, thirty, thirtyOne}
 use Rattle.model.specs.Ranges.{between}
-use Rattle.maxgain.specs.Literals.{n31}
 use Rattle.maxgain.specs.Interpolation.{lowerMhz, gainTerB}
 use Rattle.maxgain.specs.Maximum.{usable, designed, tuned}
 use Rattle.maxgain.proofs.TimesOne.{times-one}
 
 -- mode 1, 31 MHz, design 1: 10 and 10
-pub mode-1-at-31 : tuned n31 one ≡ record { foper = ten; fdesign = ten }
+pub mode-1-at-31 : tuned thirtyOne one ≡ record { foper = ten; fdesign = ten }
 unfolding tuned usable designed between ofBits le lt eq div round
 mode-1-at-31 = refl
 

@@ -10,7 +10,8 @@ use lib.Ieee.{Float}
 use lib.Ieee.Scale.{finite}
 use Rattle.model.specs.Ops.{at}
 use Rattle.model.specs.Angle.{jantOf}
-use Rattle.maxgain.specs.Maximum.{found, inputsFinite, typeOk, bandOk, refused, graded, setMaxGain}
+use Rattle.model.specs.Limits.{typeOk}
+use Rattle.maxgain.specs.Maximum.{found, inputsFinite, bandOk, refused, graded, setMaxGain}
 use Rattle.maxgain.specs.declared.maximum.Answer.the-variants.{Gain, Refused}
 use Rattle.maxgain.specs.declared.maximum.Found.{Found}
 use Rattle.maxgain.specs.declared.maximum.Maximum.{Maximum}

@@ -6,12 +6,8 @@ use lib.Dec.{eqb}
 use lib.Ieee.{Float, neg, lt, toUnsigned}
 use Rattle.model.specs.Ops.{_⊕_, _⊖_, _⊗_, _⊘_, count, at}
 use Rattle.model.specs.Literals.{one, two, thirty}
-use Rattle.model.specs.Ranges.{between, fromTo}
-use Rattle.maxgain.specs.Literals.{n0·7, n1·4, n0·85, n1·2, n28, n31}
-
--- document 01, refusal 5: "≥ 1 and < 31"
-unfoldable pub inBand : Float → Bool
-inBand freq = fromTo freq one n31
+use Rattle.model.specs.Ranges.{between}
+use Rattle.maxgain.specs.Literals.{n0·7, n1·4, n0·85, n1·2, n28}
 
 -- the whole MHz below freq; 29 at 30
 unfoldable pub lowerMhz : Float → ℕ

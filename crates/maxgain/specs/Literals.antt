@@ -21,10 +21,7 @@ n1·2 = literal 0x3f99999a
 abbrev pub n28 : Float
 n28 = literal 0x41e00000
 
-abbrev pub n31 : Float
-n31 = literal 0x41f80000
-
 pub literals-nearest :
-    allNearest (written 7 1 n0·7 ∷ written 14 1 n1·4 ∷ written 85 2 n0·85 ∷ written 12 1 n1·2 ∷ written 28 0 n28 ∷ written 31 0 n31 ∷ []) ≡ true
+    allNearest (written 7 1 n0·7 ∷ written 14 1 n1·4 ∷ written 85 2 n0·85 ∷ written 12 1 n1·2 ∷ written 28 0 n28 ∷ []) ≡ true
 unfolding nearest allNearest round ofBits toBits
 literals-nearest = refl

@@ -3,15 +3,16 @@ use Prim.Native.Nat.{ℕ}
 use mathlib.Core.Bool.{Bool, true, cond, not, _&&_}
 use mathlib.Core.List.{List}
 use lib.ListN.{set}
-use lib.Dec.{ltb, leb, eqb}
+use lib.Dec.{ltb, eqb}
 use lib.Ieee.{Float}
 use lib.Ieee.Scale.{finite}
 use Rattle.model.specs.Ops.{_⊘_, at}
 use Rattle.model.specs.Literals.{two, ten, thirty}
 use Rattle.model.specs.Ranges.{between, allFinite}
+use Rattle.model.specs.Limits.{typeOk, inBand}
 use Rattle.model.specs.Angle.{jantOf}
 use Rattle.maxgain.specs.Literals.{n0·7, n1·4}
-use Rattle.maxgain.specs.Interpolation.{inBand, gainTerB, gainTerp}
+use Rattle.maxgain.specs.Interpolation.{gainTerB, gainTerp}
 use Rattle.maxgain.specs.declared.maximum.Answer.the-variants.{Gain, Refused}
 use Rattle.maxgain.specs.declared.maximum.Maximum.{Maximum}
 use Rattle.maxgain.specs.declared.maximum.Found.{Found}
@@ -60,9 +61,6 @@ found mode iant parm gainmax gainmaxb mhz design =
 unfoldable pub inputsFinite : List Float → List Float → List Float → Float → Float → Bool
 inputsFinite parm gainmax gainmaxb mhz design =
     allFinite parm && allFinite gainmax && allFinite gainmaxb && finite mhz && finite design
-
-unfoldable pub typeOk : ℕ → Bool
-typeOk iant = leb 1 iant && leb iant 9
 
 -- mode 2 alone has a band
 unfoldable pub bandOk : ℕ → Float → Bool

@@ -1,17 +1,10 @@
 // The maximum gain between the gains that an antenna file lists: per MHz, or by frequency ratio.
 use model::range::is_between;
-use model::range::is_from_to;
 ghost use mathlib.Core.Path.{_≡_};
 ghost use mathlib.Core.Bool.{true};
 ghost use Prim.Native.Nat.{_<_, _≤_};
-ghost use Rattle.maxgain.specs.Interpolation.{inBand, lowerMhz, gainTerB, frs, ratioIndex, gainTerp1, ratioOk, gainTerp};
-
-// A frequency that the gains per MHz cover.
-pub fn in_band(freq: f32) -> bool
-    ensures { λ r. ⌜ r ≡ inBand freq ⌝ }
-{
-    is_from_to(freq, 1.0, 31.0)
-}
+ghost use Rattle.model.specs.Limits.{inBand};
+ghost use Rattle.maxgain.specs.Interpolation.{lowerMhz, gainTerB, frs, ratioIndex, gainTerp1, ratioOk, gainTerp};
 
 // The whole MHz below freq; 29 at 30.
 fn lower_mhz(freq: f32) -> usize

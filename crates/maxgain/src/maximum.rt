@@ -2,15 +2,16 @@
 // its refusals.
 use crate::interpolation::gainterb;
 use crate::interpolation::gainterp;
-use crate::interpolation::in_band;
 use model::angle::jant;
+use model::limits::in_band;
+use model::limits::type_ok;
 use model::range::all_finite;
 use model::range::is_between;
 ghost use mathlib.Core.Path.{_≡_};
 ghost use mathlib.Core.Bool.{true};
 ghost use Prim.Native.Nat.{_≤_};
-ghost use Rattle.maxgain.specs.Interpolation.{inBand};
-ghost use Rattle.maxgain.specs.Maximum.{usable, designed, tuned, tunedSlots, byRatio, byMhz, asGiven, found, inputsFinite, typeOk, bandOk, refused, graded, setMaxGain};
+ghost use Rattle.model.specs.Limits.{inBand};
+ghost use Rattle.maxgain.specs.Maximum.{usable, designed, tuned, tunedSlots, byRatio, byMhz, asGiven, found, inputsFinite, bandOk, refused, graded, setMaxGain};
 
 // A maximum gain in dBi, or the number of a refusal.
 pub enum Answer {
@@ -146,12 +147,6 @@ fn inputs_finite(
         & all_finite(&gainmaxb)
         & numeric::float::is_finite(mhz)
         & numeric::float::is_finite(design)
-}
-
-fn type_ok(iant: u32) -> bool
-    ensures { λ r. ⌜ r ≡ typeOk iant ⌝ }
-{
-    (1 <= iant) & (iant <= 9)
 }
 
 // Mode 2 alone has a band.

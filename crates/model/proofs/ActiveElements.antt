@@ -1,7 +1,7 @@
 -- What accepted counts say of the active elements: at most 30, and each entry of the list names one below 31.
 use Prim.Native.Nat.{ℕ, zero, suc, _+_, _≤_, _<_}
-use mathlib.Core.Path.{_≡_, refl}
-use mathlib.Core.Bool.{Bool, true, false, _&&_, false≢true}
+use mathlib.Core.Path.{_≡_}
+use mathlib.Core.Bool.{true, _&&_}
 use mathlib.Core.List.{List}
 use mathlib.Core.Logic.{⊎-elim}
 use native.Mathlib.Nat.{eq-or-lt-of-le}
@@ -12,10 +12,7 @@ use lib.ListN.{getD}
 use lib.Dec.{leb}
 use Rattle.model.specs.Counts.{elementOk, elementsOk, countOk, countsOk}
 use Rattle.model.specs.declared.record.Model.{Model}
-
-both : (p q : Bool) → (p && q) ≡ true → (p ≡ true) × (q ≡ true)
-both true q h = (refl, h)
-both false q h = absurd (false≢true h)
+use Rattle.model.proofs.Tests.{both}
 
 element-below : (i : ℕ) → elementOk i ≡ true → i < 31
 unfolding elementOk

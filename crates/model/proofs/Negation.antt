@@ -1,22 +1,10 @@
 -- Negation, through products and roundings, for all values: nothing is asked of the operands.
 use mathlib.Core.Path.{_≡_, refl, ap, _∙_}
-use mathlib.Core.Bool.{Bool, true, false, not, cond, Bool·not-not}
+use mathlib.Core.Bool.{Bool, true, false, not, cond}
 use Prim.Native.Nat.{ℕ, zero, suc, _+_, _*_, _^_}
 use lib.Dec.{ltb, eqb}
 use lib.Ieee.{Float, nan, inf, fin, Format, low, emax, prec, unlike, odd, units, round, neg, mul}
-use Rattle.numeric.specs.Float.{mag}
-
-pub neg-neg : (x : Float) → neg (neg x) ≡ x
-unfolding neg
-neg-neg nan = refl
-neg-neg (inf s) = ap inf (Bool·not-not s)
-neg-neg (fin s m e) = ap (λ (b : Bool). fin b m e) (Bool·not-not s)
-
-pub mag-neg : (x : Float) → mag (neg x) ≡ mag x
-unfolding neg
-mag-neg nan = refl
-mag-neg (inf s) = refl
-mag-neg (fin s m e) = refl
+use Rattle.numeric.proofs.Laws.{neg-neg}
 
 -- ---- signs
 

@@ -3,6 +3,9 @@ pub mod Ops
 pub mod Literals
 pub mod Decimals
 pub mod Ranges
+pub mod Limits
+pub mod Answers
+pub mod Filled
 pub mod Angle
 pub mod Counts
 pub mod Table

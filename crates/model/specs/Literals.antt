@@ -31,8 +31,14 @@ twenty = literal 0x41a00000
 abbrev pub thirty : Float
 thirty = literal 0x41f00000
 
+abbrev pub thirtyOne : Float
+thirtyOne = literal 0x41f80000
+
 abbrev pub sixtyFour : Float
 sixtyFour = literal 0x42800000
+
+abbrev pub ninety : Float
+ninety = literal 0x42b40000
 
 -- P1: the source's pi, 3.1415927
 abbrev pub p1 : Float

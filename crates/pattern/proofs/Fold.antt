@@ -17,8 +17,7 @@ use lib.Ieee.Bits.{ofBits-toBits}
 use lib.Ieee.Fits.{and-l, and-r, sub-fits, ofInt-fits}
 use Rattle.model.specs.Ops.{_⊖_, count}
 use Rattle.model.specs.Angle.{ifixOf}
-use Rattle.model.specs.declared.record.Direction.{Direction}
-use Rattle.model.proofs.Negation.{neg-neg}
+use Rattle.numeric.proofs.Laws.{neg-neg}
 use Rattle.pattern.specs.declared.azimuth.Quadrant.{Quadrant}
 use Rattle.pattern.specs.Mirror.{mirror}
 use Rattle.pattern.specs.Azimuth.{deg360, signed, back180, inFirst, inSecond, inThird, quadrantOf, directionOf, behindScreen}

@@ -16,7 +16,7 @@ use Rattle.pattern.specs.Mirror.{mirror}
 use Rattle.pattern.specs.Azimuth.{deg360, quadrantOf, directionOf, behindScreen}
 use Rattle.pattern.specs.Gainrel.{factorsIn, gainIn, gainRel}
 use Rattle.pattern.proofs.Mirror.{gain1-mirror, gain2-mirror, gain3-mirror, gain4-mirror, gain5-mirror, gain6-mirror}
-use Rattle.pattern.proofs.Fold.{Reflected, direction-mirror, screen-mirror, away}
+use Rattle.pattern.proofs.Fold.{direction-mirror, screen-mirror, away}
 
 -- equal where the test holds, and equal where it does not
 either : (i n : ℕ) {x x' y y' : Float} → (i ≡ n → x ≡ x') → y ≡ y' → cond (eqb i n) x y ≡ cond (eqb i n) x' y'

@@ -3,9 +3,8 @@ use mathlib.Core.Path.{_≡_, refl, ap, _∙_}
 use mathlib.Core.Bool.{Bool, false}
 use mathlib.Core.List.{List}
 use Prim.Native.Nat.{ℕ, zero, suc}
-use lib.ListN.{getD}
 use lib.Ieee.{Float, binary32, neg}
-use Rattle.numeric.proofs.Laws.{sine-odd, cosine-even}
+use Rattle.numeric.proofs.Laws.{sine-odd, cosine-even, neg-neg}
 use Rattle.model.specs.Ops.{_⊖_, _⊗_, _⊘_, +0, +0-is}
 use Rattle.model.specs.Literals.{one, two}
 use Rattle.model.specs.Opposite.{Opposite, negated, zeros}
@@ -14,14 +13,14 @@ use Rattle.model.specs.declared.record.Elements.{Elements}
 use Rattle.model.specs.declared.record.Direction.{Direction}
 use Rattle.model.specs.declared.record.Factors.{Factors}
 use Rattle.model.specs.declared.record.Entry.{Entry}
-use Rattle.model.proofs.Negation.{neg-neg, mul-neg-left, mul-neg-right}
+use Rattle.model.proofs.Negation.{mul-neg-left, mul-neg-right}
 use Rattle.model.proofs.Opposites.{add-opposite, square-same, minus-zero-odd}
 use Rattle.pattern.specs.declared.boom.Field.{Field}
 use Rattle.pattern.specs.Mirror.{mirror}
 use Rattle.pattern.specs.Rows.{ilCount, sineSum, cosineSum}
 use Rattle.pattern.specs.Dipoles.{gain1, gain2, gain3, gain4}
 use Rattle.pattern.specs.DipoleParts.{rowFactor, dipoleFactor, groundFactor, screenFront, screenFactor, reflectorFactor, slewed}
-use Rattle.pattern.specs.Boom.{entryAt, across, acrossTo, gain5, upright, uprightTo, gain6}
+use Rattle.pattern.specs.Boom.{across, acrossTo, gain5, upright, uprightTo, gain6}
 use Rattle.pattern.proofs.Parts.{gain1-parts, gain2-parts, gain3-parts, gain4-parts}
 
 ruleset signs = (mul-neg-left, mul-neg-right, neg-neg, sine-odd, cosine-even)

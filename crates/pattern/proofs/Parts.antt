@@ -3,7 +3,7 @@ use mathlib.Core.Path.{_≡_, refl}
 use mathlib.Core.Bool.{Bool}
 use Prim.Native.Nat.{ℕ}
 use lib.ListN.{getD}
-use lib.Ieee.{Float, nan}
+use lib.Ieee.{nan}
 use Rattle.model.specs.Ops.{_⊕_, _⊖_, _⊗_, _⊘_}
 use Rattle.model.specs.Literals.{one, two, q1}
 use Rattle.model.specs.declared.record.Constants.{Constants}

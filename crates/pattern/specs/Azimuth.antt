@@ -2,7 +2,7 @@
 use Prim.Native.Nat.{ℕ}
 use mathlib.Core.List.{List}
 use mathlib.Core.Bool.{Bool, true, false, _&&_, _||_, cond}
-use lib.IntN.{ℤ, pos, _-ℤ_}
+use lib.IntN.{pos, _-ℤ_}
 use lib.Signed.{leZ}
 use lib.ListN.{getD}
 use lib.Ieee.{Float, nan, binary32, neg, rem, lt, le, toSigned}

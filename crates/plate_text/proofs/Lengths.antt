@@ -8,32 +8,32 @@ use mathlib.Core.List.{List}
 use lib.ListN.{length, take}
 use lib.Seq.{length-take-le}
 use lib.Dec.{eqb, lit≤}
-use lib.Ieee.{Float, eq}
-use Rattle.model.specs.Ops.{+0}
+use lib.Ieee.{Float}
 use Rattle.maxgain.specs.declared.maximum.Answer.{Answer}
 use Rattle.maxgain.specs.declared.maximum.Answer.the-variants.{Gain, Refused}
 use Rattle.antenna.specs.declared.record.Antenna.{Antenna}
-use Rattle.antenna.specs.Answers as outcome
+use Rattle.model.specs.Answers as outcome
 use Rattle.station.specs.Answers as station
 use Rattle.station.specs.declared.Station.{Station}
 use Rattle.text.specs.Writing.{Wrote}
 use Rattle.text.specs.Lines.{refusalLine}
-use Rattle.text.proofs.Lengths.{lines-length, refusal-length}
+use Rattle.text.proofs.Lengths.{refusal-length}
 use Rattle.plate_text.specs.declared.Request.{Request}
 use Rattle.plate_text.specs.Plate.{requestIn, afterRow, rowText, afterSetUp, parametersText, afterMaximum, stationText, afterRead, plateText}
+use Rattle.plate_text.proofs.GainLines.{gain-lines-length}
 
 refusal-short : (n : ℕ) → length (refusalLine n) ≤ 7560
 refusal-short n = le-trans (refusal-length n) (lit≤ tt)
 
-after-row : (o : outcome.Outcome Float) (a : Antenna) (numbers : List Float) → length (afterRow o a numbers) ≤ 7560
+after-row : (o : outcome.Outcome Float) (a : Antenna) (t : List Float) (elevation giso : Float) → length (afterRow o a t elevation giso) ≤ 7560
 unfolding afterRow
-after-row (outcome.refused n) a numbers = refusal-short n
-after-row (outcome.accepted x) a numbers = lines-length (eq (a .peak .z6) +0) numbers 360
+after-row (outcome.refused n) a t elevation giso = refusal-short n
+after-row (outcome.accepted x) a t elevation giso = gain-lines-length a t elevation giso 360
 
 after-set-up : (o : outcome.Outcome (Antenna × ℕ)) (t : List Float) (giso elevation : Float) → length (afterSetUp o t giso elevation) ≤ 7560
 unfolding afterSetUp rowText
 after-set-up (outcome.refused n) t giso elevation = refusal-short n
-after-set-up (outcome.accepted a) t giso elevation = after-row _ (a .0) _
+after-set-up (outcome.accepted a) t giso elevation = after-row _ (a .0) t elevation giso
 
 after-maximum : (m : Answer) (parm : List Float) (elevation : Float) → length (afterMaximum m parm elevation) ≤ 7560
 unfolding afterMaximum parametersText

@@ -1,12 +1,13 @@
 -- What each answer of a step makes of the text. Assumes nothing.
-use mathlib.Core.Path.{_≡_, refl, sym, ap, _∙_}
+use mathlib.Core.Path.{_≡_, sym, ap, _∙_}
 use Prim.Native.Nat.{ℕ, _≤_}
 use mathlib.Core.List.{List}
-use lib.ListN.{length, take, replicate, length-replicate}
+use lib.ListN.{length, take}
+use lib.Dec.{lit≤}
 use lib.Ieee.{Float, eq}
 use borrow.Author.Tests.{eq-eqb, ne-eqb, le-ltb}
 use Rattle.model.specs.Ops.{+0}
-use Rattle.model.specs.Table.{tableSize}
+use Rattle.model.specs.Table.{tableSize, blankTable}
 use Rattle.maxgain.specs.Maximum.{setMaxGain}
 use Rattle.maxgain.specs.declared.maximum.Maximum.{Maximum}
 use Rattle.maxgain.specs.declared.maximum.Answer.the-variants as maximum
@@ -15,7 +16,7 @@ use Rattle.antenna.specs.declared.row.PlateRow.{PlateRow}
 use Rattle.antenna.specs.declared.row.PlateRow.the-variants as row
 use Rattle.antenna.specs.declared.setup.SetUp.{SetUp}
 use Rattle.antenna.specs.declared.setup.Prepared.the-variants as setup
-use Rattle.antenna.specs.Answers as outcome
+use Rattle.model.specs.Answers as outcome
 use Rattle.antenna.specs.SetUp.{setUpOf, setUpAnswer, lentAfter}
 use Rattle.antenna.specs.Row.{rowOf, rowAnswer, rowAfter, writtenAfter, numbersOf}
 use Rattle.station.specs.Answers.{answer, readOf}
@@ -24,7 +25,8 @@ use Rattle.station.specs.declared.Reading.{Reading}
 use Rattle.station.specs.declared.Verdict.the-variants as verdict
 use Rattle.text.specs.Lines.{lines, refusalLine}
 use Rattle.plate_text.specs.declared.Request.{Request}
-use Rattle.plate_text.specs.Plate.{requestIn, afterRow, rowText, afterSetUp, blankTable, parametersText, afterMaximum, stationText, afterRead, plateText, textIn}
+use Rattle.plate_text.specs.Plate.{requestIn, afterRow, rowText, afterSetUp, parametersText, afterMaximum, stationText, afterRead, plateText, textIn}
+use Rattle.plate_text.proofs.GainLines.{lines-are-gains}
 
 -- the row, with 360 floats lent
 module _ (a : Antenna) (t : List Float) (elevation giso : Float) (lent : List Float) (len : length lent ≡ 360) (r : PlateRow) (answered : rowAnswer r ≡ rowOf a t elevation giso (length lent)) where
@@ -33,24 +35,19 @@ module _ (a : Antenna) (t : List Float) (elevation giso : Float) (lent : List Fl
 
   pub row-refused : (n : ℕ) → r ≡ row.Refused n → rowText a t elevation giso ≡ refusalLine n
   unfolding rowText afterRow rowAnswer
-  row-refused n told = ap (λ (o : outcome.Outcome Float). afterRow o a (numbersOf a t elevation giso)) (said ∙ ap rowAnswer told)
+  row-refused n told = ap (λ (o : outcome.Outcome Float). afterRow o a t elevation giso) (said ∙ ap rowAnswer told)
 
   pub row-lines : (x : Float) → r ≡ row.FrontToBack x → rowText a t elevation giso ≡ lines (eq (a .peak .z6) +0) (numbersOf a t elevation giso) 360
   unfolding rowText afterRow rowAnswer
-  row-lines x told = ap (λ (o : outcome.Outcome Float). afterRow o a (numbersOf a t elevation giso)) (said ∙ ap rowAnswer told)
+  row-lines x told =
+      let accepted : rowOf a t elevation giso 360 ≡ outcome.accepted x = said ∙ ap rowAnswer told in
+      ap (λ (o : outcome.Outcome Float). afterRow o a t elevation giso) accepted ∙ lines-are-gains a t elevation giso accepted 360 (lit≤ tt)
 
   pub row-numbers : (x : Float) → r ≡ row.FrontToBack x → rowAfter a t elevation giso lent ≡ numbersOf a t elevation giso
   unfolding rowAfter writtenAfter rowAnswer
   row-numbers x told = ap (λ (o : outcome.Outcome Float). writtenAfter o (numbersOf a t elevation giso) lent) (sym answered ∙ ap rowAnswer told)
 
 -- set-up
-pub blank-table : replicate tableSize +0 ≡ blankTable
-unfolding blankTable
-blank-table = refl
-
-pub blank-length : length (replicate tableSize +0) ≡ tableSize
-blank-length = length-replicate tableSize +0
-
 module _ (parm : List Float) (giso elevation : Float) (r : SetUp) (answered : setUpAnswer r ≡ setUpOf parm tableSize) where
   set-up-said : (o : outcome.Outcome (Antenna × ℕ)) → setUpAnswer r ≡ o → parametersText parm giso elevation ≡ afterSetUp o (lentAfter parm blankTable) giso elevation
   unfolding parametersText

@@ -7,6 +7,7 @@ use antenna::setup::Prepared;
 use antenna::setup::antinit2;
 use maxgain::maximum::Answer;
 use maxgain::maximum::setmaxgain;
+use model::table::blank_table;
 use station::Station;
 use station::Verdict;
 use station::bits::float_of;
@@ -61,7 +62,7 @@ fn put_antenna(parm: [f32; 20], giso: f32, elevation: f32, text: &mut [u8]) -> u
     requires { ⌜ 8192 ≤ length (now text) ⌝ }
     ensures { λ r. ⌜ Wrote (now (text .entry)) 0 (parametersText parm giso elevation) (now (text .exit)) r ⌝ }
 {
-    let mut table = [0.0f32; 11284];
+    let mut table = blank_table();
     let prepared = antinit2(parm, &mut table);
     let answer = prepared.answer;
     let ant = prepared.antenna;

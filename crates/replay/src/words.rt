@@ -2,7 +2,6 @@
 use station::bits::float_of;
 ghost use mathlib.Core.Path.{_≡_};
 ghost use Prim.Native.Nat.{_+_, _≤_};
-ghost use lib.ListN.{length};
 ghost use Rattle.replay.specs.Unequal.{apart, unequal};
 
 // What a lent word is before a call, so that one which the call leaves alone shows.

@@ -6,7 +6,7 @@ use native.Mathlib.Omega.{arith}
 use lib.ListN.{length, length-append}
 use lib.Ieee.{Float}
 use Rattle.model.specs.Ops.{at}
-use Rattle.antenna.specs.Answers.{Outcome, refused, accepted}
+use Rattle.model.specs.Answers.{Outcome, refused, accepted}
 use Rattle.antenna.specs.Gain.{Kind, gainOf}
 use Rattle.antenna.specs.declared.record.Antenna.{Antenna}
 use Rattle.service.specs.Gains.{gainWords, gainsTo}

@@ -5,11 +5,12 @@ use mathlib.Core.List.{List}
 use lib.ListN.{length}
 use lib.Dec.{eqb}
 use lib.Ieee.{Float, binary32, toBits}
-use Rattle.curtain.specs.Answers.{Answer, level, refused, curtainGain}
+use Rattle.model.specs.Answers.{Outcome, refused, accepted}
+use Rattle.curtain.specs.Answers.{curtainGain}
 
 -- kind × 2^32 plus a word: kind 0 is a level with its bits, kind 3 a refusal with its number
-unfoldable pub packed : Answer → ℕ
-packed (level x) = toBits binary32 x
+unfoldable pub packed : Outcome Float → ℕ
+packed (accepted x) = toBits binary32 x
 packed (refused n) = 3 * 2 ^ 32 + n
 
 -- 8 for parameters of another number

@@ -2,12 +2,12 @@
 use Prim.Native.Nat.{ℕ, zero, suc, _+_, _*_, _/_, _%_}
 use mathlib.Core.Bool.{Bool, cond, not, _&&_}
 use mathlib.Core.List.{List, [], _∷_, _++_}
-use lib.ListN.{length, replicate}
+use lib.ListN.{length}
 use lib.Dec.{eqb}
 use lib.Ieee.{Float, binary32, toBits}
-use Rattle.model.specs.Ops.{at, +0}
-use Rattle.model.specs.Table.{tableSize}
-use Rattle.antenna.specs.Answers.{Outcome, refused, accepted}
+use Rattle.model.specs.Ops.{at}
+use Rattle.model.specs.Table.{tableSize, blankTable}
+use Rattle.model.specs.Answers.{Outcome, refused, accepted}
 use Rattle.antenna.specs.Gain.{Kind, level, floor, silence, gainOf}
 use Rattle.antenna.specs.SetUp.{setUpOf, lentAfter}
 use Rattle.antenna.specs.declared.record.Antenna.{Antenna}
@@ -37,10 +37,6 @@ gainsLeft (accepted s) t giso ds out = left 0 (searchWords (s .1) (s .0 .peak) +
 -- twenty parameters, whole pairs, four words plus two a pair
 unfoldable pub gainsFit : ℕ → ℕ → ℕ → Bool
 gainsFit parm directions out = eqb out (4 + directions) && eqb parm 20 && eqb (directions % 2) 0
-
--- the table that set-up is lent
-unfoldable pub blankTable : List Float
-blankTable = replicate tableSize +0
 
 -- 8 for slices of other lengths
 unfoldable pub gainsCall : List Float → Float → List Float → List ℕ → Left

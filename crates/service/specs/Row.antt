@@ -5,7 +5,7 @@ use mathlib.Core.List.{List}
 use lib.ListN.{length, set}
 use lib.Dec.{eqb}
 use lib.Ieee.{Float, binary32, toBits}
-use Rattle.antenna.specs.Answers.{Outcome, refused, accepted}
+use Rattle.model.specs.Answers.{Outcome, refused, accepted}
 use Rattle.antenna.specs.SetUp.{setUpOf, lentAfter}
 use Rattle.antenna.specs.Row.{rowOf, rowAfter}
 use Rattle.antenna.specs.declared.record.Antenna.{Antenna}

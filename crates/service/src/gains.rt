@@ -6,6 +6,7 @@ use antenna::gain::ccirgain;
 use antenna::record::Antenna;
 use antenna::setup::Prepared;
 use antenna::setup::antinit2;
+use model::table::blank_table;
 use station::bits::bits_of;
 ghost use mathlib.Core.Path.{_≡_};
 ghost use mathlib.Core.List.{[], _∷_};
@@ -14,7 +15,7 @@ ghost use lib.ListN.{length};
 ghost use Rattle.antenna.specs.Gain.{gainAnswer};
 ghost use Rattle.antenna.specs.SetUp.{setUpOf, lentAfter};
 ghost use Rattle.service.specs.Lists.{left, laid};
-ghost use Rattle.service.specs.Gains.{gainWords, gainsTo, gainsLeft, gainsFit, blankTable, gainsCall};
+ghost use Rattle.service.specs.Gains.{gainWords, gainsTo, gainsLeft, gainsFit, gainsCall};
 
 // A gain in two words.
 struct GainPair {
@@ -77,13 +78,6 @@ fn gains_fit(parm: usize, directions: usize, out: usize) -> bool
         return false;
     }
     (out - 4 == directions) & (parm == 20) & (directions % 2 == 0)
-}
-
-// A table of zeros.
-fn blank_table() -> [f32; 11284]
-    ensures { λ r. ⌜ r ≡ blankTable ⌝ }
-{
-    [0.0; 11284]
 }
 
 // Set-up into the lent table, then the gains.

@@ -13,6 +13,7 @@ use lib.Ieee.Bits.{ofBits-toBits, toBits-ofBits, toBits-lt}
 use lib.Ieee.Scale.{finite}
 use borrow.Author.Tests.{eq-eqb, eqb-true, le-leb, leb-true}
 use Rattle.model.specs.Ranges.{allFinite}
+use Rattle.model.proofs.Tests.{both}
 use Rattle.station.specs.declared.Station.{Station}
 use Rattle.station.specs.Digits.{after, number, digits, Below, none, more}
 use Rattle.station.specs.Record.{packed, headerIn, wordsIn, spareIn, floatsOf, wordsOf, stationOf, editionIn, modeIn, floatsIn, isRecord, recordOf, zeros}
@@ -93,14 +94,10 @@ values-back : {fs : List Float} → Each fs → map (ofBits binary32) (map (toBi
 values-back no-float = refl
 values-back (a-float {x} {xs} h r) = ap (λ (y : Float). y ∷ map (ofBits binary32) (map (toBits binary32) xs)) (ofBits-toBits binary32 x h) ∙ ap (λ (ys : List Float). x ∷ ys) (values-back r)
 
-both-true : (a b : Bool) → (a && b) ≡ true → (a ≡ true) × (b ≡ true)
-both-true true b e = (refl, e)
-both-true false b e = absurd (subst T (sym e) tt)
-
 patterns-back : {ws : List ℕ} → Below (2 ^ 32) ws → allFinite (map (ofBits binary32) ws) ≡ true → map (toBits binary32) (map (ofBits binary32) ws) ≡ ws
 patterns-back none e = refl
 patterns-back (more {x = w} {xs = ws} h r) e =
-    let f = both-true (finite (ofBits binary32 w)) (allFinite (map (ofBits binary32) ws)) (sym (allFinite-cons (ofBits binary32 w) (map (ofBits binary32) ws)) ∙ e) in
+    let f = both (finite (ofBits binary32 w)) (allFinite (map (ofBits binary32) ws)) (sym (allFinite-cons (ofBits binary32 w) (map (ofBits binary32) ws)) ∙ e) in
     ap (λ (y : ℕ). y ∷ map (toBits binary32) (map (ofBits binary32) ws)) (toBits-ofBits binary32 w h (finite-value (ofBits binary32 w) (f .0)))
     ∙ ap (λ (ys : List ℕ). w ∷ ys) (patterns-back r (f .1))
 
@@ -151,8 +148,8 @@ record-read s t finite-floats small =
 read-record : (bytes : List ℕ) → Below 256 bytes → isRecord bytes ≡ true → allFinite (floatsIn 4 bytes) ≡ true → recordOf (stationOf (modeIn bytes) (floatsIn 4 bytes)) ≡ bytes
 unfolding recordOf isRecord floatsIn wordsIn
 read-record bytes below e f =
-    let i = both-true (eqb (length bytes) 225) (eqb (editionIn bytes) 0 && eqb (spareIn 4 bytes) 0) e in
-    let j = both-true (eqb (editionIn bytes) 0) (eqb (spareIn 4 bytes) 0) (i .1) in
+    let i = both (eqb (length bytes) 225) (eqb (editionIn bytes) 0 && eqb (spareIn 4 bytes) 0) e in
+    let j = both (eqb (editionIn bytes) 0) (eqb (spareIn 4 bytes) 0) (i .1) in
     let header : modeIn bytes ≡ headerIn 4 bytes = omega (arith, eqb-true (editionIn bytes) 0 (j .0)) in
     ap (λ (fs : List Float). packed 4 (modeIn bytes) (map (toBits binary32) fs)) (floats-back (modeIn bytes) (floatsIn 4 bytes))
     ∙ ap (packed 4 (modeIn bytes)) (patterns-back (below-digits (2 ^ 32) 56 (number 256 bytes / 2 ^ (8 - 4)) (lit< tt)) f)

@@ -1,11 +1,15 @@
 -- `plate_text::put_antenna` meets its contract. Assumes nothing.
-use mathlib.Core.Path.{_≡_, ap, _∙_}
+use mathlib.Core.Path.{_≡_, _∙_}
 use Rattle.model.specs.Table.{tableSize}
 use Rattle.antenna.specs.SetUp.{setUpOf, setUpAnswer}
-use Rattle.plate_text.proofs.Steps.{blank-table, blank-length, set-up-refused, set-up-row}
+use Rattle.model.proofs.Filled.{blank-length}
+use Rattle.plate_text.proofs.Steps.{set-up-refused, set-up-row}
 use borrow.Author.Needs.{needs}
 use Rattle.plate_text.proofs.put_antenna.Statement.{statement}
 use Rattle.plate_text.proofs.put_antenna.Tie as tie
+
+blank-table-requires : tie.Need-blank-table-requires
+blank-table-requires c κs = search needs
 
 slice-aggregate-antinit2 : tie.Need-slice-aggregate-antinit2
 slice-aggregate-antinit2 c = search needs
@@ -32,14 +36,14 @@ same-length : tie.Need-same-length
 same-length c = search needs
 
 -- set-up answers for a table of its size
-answered : (c : tie.After-antinit2) → setUpAnswer (c .antinit2 .result) ≡ setUpOf (c .before .before .before .args .parm) tableSize
-answered c = c .antinit2 .ensures .0 ∙ ap (setUpOf (c .before .before .before .args .parm)) blank-length
+answered : (c : tie.After-antinit2) → setUpAnswer (c .antinit2 .result) ≡ setUpOf (c .before .before .before .before .args .parm) tableSize
+answered c = c .antinit2 .ensures .0 ∙ rw (c .before .before .blank-table .ensures, blank-length)
 
 returns : tie.Need-returns
 returns c =
     let told = c .before .before .before .before .before in
     let set = told .before .before .before .before in
-    let start = set .before .before .before in
+    let start = set .before .before .before .before in
     rw (set-up-refused (start .args .parm) (start .args .giso) (start .args .elevation) (set .antinit2 .result) (answered set) _ (told .answer .given .1)) (c .before .before .put-refusal .ensures)
 
 same-length-2 : tie.Need-same-length-2
@@ -49,13 +53,14 @@ returns-2 : tie.Need-returns-2
 returns-2 c =
     let told = c .before .before .before .before .before in
     let set = told .before .before .before .before in
-    let start = set .before .before .before in
-    rw (set-up-row (start .args .parm) (start .args .giso) (start .args .elevation) (set .antinit2 .result) (answered set) _ (told .enum-told .given .1), ← blank-table, ← set .antinit2 .ensures .1) (c .before .before .put-row .ensures)
+    let start = set .before .before .before .before in
+    rw (set-up-row (start .args .parm) (start .args .giso) (start .args .elevation) (set .antinit2 .result) (answered set) _ (told .enum-told .given .1), ← set .before .before .blank-table .ensures, ← set .antinit2 .ensures .1) (c .before .before .put-row .ensures)
 
 pub put-antenna-spec : {M : Type 1} → statement M
 put-antenna-spec =
     tie.close
     (tie.spec
+    blank-table-requires
     slice-aggregate-antinit2
     antinit2-requires
     enum-known-answer

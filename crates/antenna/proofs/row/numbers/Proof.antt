@@ -5,6 +5,7 @@ use native.Mathlib.Omega.{arith}
 use Prim.Native.Nat.{_≤_, _-_}
 use native.Mathlib.Numerals.{add-one}
 use Rattle.antenna.specs.Gain.{numberAt}
+use Rattle.model.specs.Filled.{filledTo}
 use Rattle.antenna.specs.Row.{rowTo}
 use Rattle.antenna.proofs.row.numbers.Statement.{statement}
 use Rattle.antenna.proofs.row.numbers.Tie as tie
@@ -16,7 +17,7 @@ abbrev μ-loop : tie.MeasureT-loop
 μ-loop m z6 table u giso out₀ v₀ out v = 360 - v
 
 loop-holds : tie.Need-loop-holds Inv-loop μ-loop
-unfolding rowTo
+unfolding filledTo
 loop-holds c = (refl, omega arith)
 
 int-to-float-gainrel : tie.Need-int-to-float-gainrel Inv-loop μ-loop
@@ -41,7 +42,7 @@ loop-less : tie.Need-loop-less Inv-loop μ-loop
 loop-less c = omega arith
 
 loop-again : tie.Need-loop-again Inv-loop μ-loop
-unfolding rowTo numberAt
+unfolding filledTo numberAt
 loop-again c = (rw (add-one, c .decibels .ensures, c .before .gainrel .ensures, c .before .before .before .before .loop .inv .0), omega arith)
 
 returns : tie.Need-returns Inv-loop μ-loop

@@ -3,7 +3,6 @@ use mathlib.Core.Path.{_≡_, refl}
 use Prim.Native.Nat.{_-_, _≤_}
 use native.Mathlib.Numerals.{add-one}
 use native.Mathlib.Omega.{arith}
-use lib.Ieee.{ofBits}
 use borrow.Author.Needs.{needs}
 use Rattle.curtain.proofs.InSteps.{f2-in-steps}
 use Rattle.curtain.specs.Integral.{pAfter, readings}

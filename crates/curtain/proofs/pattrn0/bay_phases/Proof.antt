@@ -5,7 +5,8 @@ use mir.Syntax.{w32}
 use mir.ValLaws.{toZ-ofZ}
 use Rattle.model.specs.Ops.{_⊗_}
 use Rattle.curtain.specs.Excitation.{bayphs}
-use Rattle.curtain.specs.Pattrn0.{filledTo, bayPhases}
+use Rattle.model.specs.Filled.{filledTo}
+use Rattle.curtain.specs.Pattrn0.{bayPhases}
 use mathlib.Core.Path.{_≡_, refl}
 use Prim.Native.Nat.{ℕ, _-_, _≤_}
 use native.Mathlib.Numerals.{add-one}

@@ -1,7 +1,8 @@
 -- `curtain::pattrn0::bay_places` meets its contract.
 use Rattle.curtain.proofs.Counted.{few}
 use Rattle.model.specs.Ops.{_⊗_, count}
-use Rattle.curtain.specs.Pattrn0.{filledTo, bayPlaces}
+use Rattle.model.specs.Filled.{filledTo}
+use Rattle.curtain.specs.Pattrn0.{bayPlaces}
 use mathlib.Core.Path.{_≡_, refl}
 use Prim.Native.Nat.{ℕ, _-_, _≤_}
 use native.Mathlib.Numerals.{add-one}

@@ -1,6 +1,7 @@
 -- `curtain::pattrn0::bay_ratios` meets its contract.
 use Rattle.model.specs.Literals.{one}
-use Rattle.curtain.specs.Pattrn0.{filledTo, bayRatios}
+use Rattle.model.specs.Filled.{filledTo}
+use Rattle.curtain.specs.Pattrn0.{bayRatios}
 use mathlib.Core.Path.{_≡_, refl}
 use Prim.Native.Nat.{ℕ, _-_, _≤_}
 use native.Mathlib.Numerals.{add-one}

@@ -1,9 +1,10 @@
 -- `curtain::pattrn0::stack_ratios` meets its contract.
 use borrow.Author.Needs.{needs}
 use Rattle.curtain.specs.Excitation.{stkrat}
-use Rattle.curtain.specs.Pattrn0.{filledTo, stackRatios}
+use Rattle.model.specs.Filled.{filledTo}
+use Rattle.curtain.specs.Pattrn0.{stackRatios}
 use mathlib.Core.Path.{_≡_, refl}
-use Prim.Native.Nat.{ℕ, _-_, _≤_}
+use Prim.Native.Nat.{_-_, _≤_}
 use native.Mathlib.Numerals.{add-one}
 use native.Mathlib.Omega.{arith}
 use Rattle.curtain.proofs.pattrn0.stack_ratios.Statement.{statement}

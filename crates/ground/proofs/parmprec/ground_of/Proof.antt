@@ -3,7 +3,7 @@ use native.Mathlib.Omega.{arith}
 use Prim.Native.Nat.{_-_, _≤_}
 use native.Mathlib.Numerals.{add-one}
 use borrow.Author.Needs.{needs}
-use Rattle.ground.specs.Filled.{filledTo}
+use Rattle.model.specs.Filled.{filledTo}
 use Rattle.ground.specs.Ground.{groundTo, groundOf}
 use Rattle.ground.proofs.parmprec.ground_of.Statement.{statement}
 use Rattle.ground.proofs.parmprec.ground_of.Tie as tie

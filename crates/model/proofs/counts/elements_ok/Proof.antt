@@ -7,9 +7,6 @@ use borrow.Author.Needs.{needs}
 use Rattle.model.specs.Counts.{elementsOk}
 use Rattle.model.proofs.counts.elements_ok.Statement.{statement}
 use Rattle.model.proofs.counts.elements_ok.Tie as tie
-use Rattle.model.proofs.counts.elements_ok.Reads as reads
-use Rattle.model.proofs.counts.elements_ok.Lts as lts
-use Rattle.model.proofs.counts.element_ok.Reads as element-ok-reads
 
 abbrev Inv-loop : tie.InvT-loop
 Inv-loop n iek ok₀ k₀ ok k = (ok ≡ elementsOk iek k) × (k ≤ n)

@@ -1,5 +1,4 @@
 -- `pattern::azimuth::behind_screen` meets its contract.
-use lib.Ieee.{binary32, rem}
 use Rattle.model.proofs.WholeNumbers.{back}
 use Rattle.pattern.specs.Azimuth.{behindScreen, turned}
 use borrow.Author.Needs.{needs}

@@ -1,5 +1,4 @@
 -- `pattern::azimuth::with_sign` meets its contract.
-use borrow.Author.Needs.{needs}
 use Rattle.pattern.proofs.azimuth.with_sign.Statement.{statement}
 use Rattle.pattern.proofs.azimuth.with_sign.Tie as tie
 

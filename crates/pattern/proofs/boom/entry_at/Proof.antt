@@ -1,7 +1,4 @@
 -- `pattern::boom::entry_at` meets its contract.
-use mathlib.Core.Path.{_≡_}
-use Prim.Native.Nat.{_+_, _*_}
-use native.Mathlib.Omega.{arith}
 use Rattle.pattern.specs.Boom.{entryAt}
 use Rattle.pattern.proofs.Cells.{cell-0, cell-1, cell-2, cell-3}
 use borrow.Author.Needs.{needs}

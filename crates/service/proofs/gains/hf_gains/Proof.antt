@@ -1,15 +1,14 @@
 -- `hf_gains`, by what it calls.
-use mathlib.Core.Path.{_≡_, refl, sym, _∙_}
-use mathlib.Core.Bool.{Bool, true, false, _&&_, true≢false}
+use mathlib.Core.Path.{_≡_, sym, _∙_}
 use Prim.Native.Nat.{_+_, _%_}
 use native.Mathlib.Omega.{arith}
 use borrow.Author.Needs.{needs}
 use borrow.Author.Tests.{not-false, eqb-true}
-use lib.ListN.{length, length-replicate}
+use lib.ListN.{length}
 use lib.Seq.{take-all}
-use Rattle.model.specs.Ops.{+0}
-use Rattle.model.specs.Table.{tableSize}
-use Rattle.service.specs.Gains.{gainsFit, blankTable, gainsCall}
+use Rattle.model.proofs.Tests.{both}
+use Rattle.model.proofs.Filled.{blank-length}
+use Rattle.service.specs.Gains.{gainsFit, gainsCall}
 use Rattle.service.proofs.gains.hf_gains.Statement.{statement}
 use Rattle.service.proofs.gains.hf_gains.Tie as tie
 
@@ -22,10 +21,6 @@ returns c = rw (← c .before .gains-fit .ensures, c .if1 .taken)
 
 blank-table-requires : tie.Need-blank-table-requires
 blank-table-requires c κs = search needs
-
-both : (a b : Bool) → a && b ≡ true → (a ≡ true) × (b ≡ true)
-both true b e = (refl, e)
-both false b e = absurd (true≢false (sym e))
 
 -- what the test says
 fits : (c : tie.Else1) → let a = c .before .before .before .before .before .args in (length (a .out .now) ≡ 4 + length (a .directions .now)) × (length (a .parm .now) ≡ 20) × (length (a .directions .now) % 2 ≡ 0)
@@ -46,10 +41,6 @@ gains-over-requires c κs = let f = fits (c .before .before .before .before) in 
 
 same-length : tie.Need-same-length
 same-length c = search needs
-
-blank-length : length blankTable ≡ tableSize
-unfolding blankTable
-blank-length = length-replicate tableSize +0
 
 returns-2 : tie.Need-returns-2
 unfolding gainsCall

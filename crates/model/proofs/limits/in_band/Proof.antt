@@ -1,7 +1,8 @@
-use Rattle.maxgain.specs.Interpolation.{inBand}
+-- `in_band` is its range.
 use borrow.Author.Needs.{needs}
-use Rattle.maxgain.proofs.interpolation.in_band.Statement.{statement}
-use Rattle.maxgain.proofs.interpolation.in_band.Tie as tie
+use Rattle.model.specs.Limits.{inBand}
+use Rattle.model.proofs.limits.in_band.Statement.{statement}
+use Rattle.model.proofs.limits.in_band.Tie as tie
 
 is-from-to-requires : tie.Need-is-from-to-requires
 is-from-to-requires c κs = search needs
