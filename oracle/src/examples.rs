@@ -1,5 +1,5 @@
 //! Stations with a name, in words that a reader can follow: the files of `examples/` and the stored runs of the program.
-//! `bin/write_examples.rs` writes the files, `compare` holds those that are stored to these.
+//! `bin/write_stored.rs` writes the files, `compare` holds those that are stored to these.
 #[cfg(source)]
 use crate::plate;
 use crate::record;

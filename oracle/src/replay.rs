@@ -1,5 +1,5 @@
 //! The replayed list: the oracle's answers to calls of each kind, a file of big-endian words for each call, which the proved crate
-//! `replay` holds to the library's. `bin/write_replay.rs` writes the files, `compare` holds those that are stored to these.
+//! `replay` holds to the library's. `bin/write_stored.rs` writes the files, `compare` holds those that are stored to these.
 //! All records of a call have the same length: a slice has room for one element more than it should have, and its length comes
 //! first. What a call leaves alone in lent space is stored as `LEFT`. A second list for each call, `NAME.wrong`, has wrong answers, so
 //! that a replay which finds nothing shows.

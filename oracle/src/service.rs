@@ -1,14 +1,11 @@
 //! The proved library's calls. Nothing checks these declarations against the Rattle: keep both side by side in a review.
-//! A slice is a pointer, then a length. A call that `service` doesn't export yet waits behind its feature.
+//! A slice is a pointer, then a length.
 
 mod raw {
     extern "C" {
         pub fn hf_leaf(which: u32, a: u32, b: u32) -> u32;
-        #[cfg(feature = "maxgain")]
         pub fn hf_maxgain(mode: u32, floats: *const f32, floats_len: usize, out: *mut u32, out_len: usize) -> u32;
-        #[cfg(feature = "curtain")]
         pub fn hf_curtain(parm: *const f32, parm_len: usize, azimuth: f32, elevation: f32, factor: f32) -> u64;
-        #[cfg(feature = "gains")]
         pub fn hf_gains(
             parm: *const f32,
             parm_len: usize,
@@ -18,7 +15,6 @@ mod raw {
             out: *mut u32,
             out_len: usize,
         ) -> u32;
-        #[cfg(feature = "row")]
         pub fn hf_row(
             parm: *const f32,
             parm_len: usize,
@@ -31,11 +27,8 @@ mod raw {
             out: *mut u32,
             out_len: usize,
         ) -> u32;
-        #[cfg(feature = "record")]
         pub fn hf_read(record: *const u8, record_len: usize, words: *mut u32, words_len: usize) -> u32;
-        #[cfg(feature = "record")]
         pub fn hf_write(words: *const u32, words_len: usize, record: *mut u8, record_len: usize) -> u32;
-        #[cfg(feature = "plate")]
         pub fn hf_plate(input: *const u8, input_len: usize, text: *mut u8, text_len: usize) -> usize;
     }
 }
@@ -45,26 +38,22 @@ pub fn leaf(which: u32, a: u32, b: u32) -> u32 {
     unsafe { raw::hf_leaf(which, a, b) }
 }
 
-#[cfg(feature = "maxgain")]
 pub fn maxgain(mode: u32, floats: &[f32], out: &mut [u32]) -> u32 {
     // SAFETY: the pointers and lengths are those of live slices, and one borrowed mutably overlaps no other; so in all calls below.
     unsafe { raw::hf_maxgain(mode, floats.as_ptr(), floats.len(), out.as_mut_ptr(), out.len()) }
 }
 
-#[cfg(feature = "curtain")]
 pub fn curtain(parm: &[f32], azimuth: f32, elevation: f32, factor: f32) -> u64 {
     // SAFETY: as above.
     unsafe { raw::hf_curtain(parm.as_ptr(), parm.len(), azimuth, elevation, factor) }
 }
 
-#[cfg(feature = "gains")]
 pub fn gains(parm: &[f32], giso: f32, directions: &[f32], out: &mut [u32]) -> u32 {
     let (out_len, out) = (out.len(), out.as_mut_ptr());
     // SAFETY: as above.
     unsafe { raw::hf_gains(parm.as_ptr(), parm.len(), giso, directions.as_ptr(), directions.len(), out, out_len) }
 }
 
-#[cfg(feature = "row")]
 pub fn row(parm: &[f32], table: &mut [f32], giso: f32, elevation: f32, row: &mut [f32], out: &mut [u32]) -> u32 {
     let (table_len, table) = (table.len(), table.as_mut_ptr());
     let (row_len, row) = (row.len(), row.as_mut_ptr());
@@ -73,19 +62,16 @@ pub fn row(parm: &[f32], table: &mut [f32], giso: f32, elevation: f32, row: &mut
     unsafe { raw::hf_row(parm.as_ptr(), parm.len(), table, table_len, giso, elevation, row, row_len, out, out_len) }
 }
 
-#[cfg(feature = "record")]
 pub fn read(record: &[u8], words: &mut [u32]) -> u32 {
     // SAFETY: as above.
     unsafe { raw::hf_read(record.as_ptr(), record.len(), words.as_mut_ptr(), words.len()) }
 }
 
-#[cfg(feature = "record")]
 pub fn write(words: &[u32], record: &mut [u8]) -> u32 {
     // SAFETY: as above.
     unsafe { raw::hf_write(words.as_ptr(), words.len(), record.as_mut_ptr(), record.len()) }
 }
 
-#[cfg(feature = "plate")]
 pub fn plate(input: &[u8], text: &mut [u8]) -> usize {
     // SAFETY: as above.
     unsafe { raw::hf_plate(input.as_ptr(), input.len(), text.as_mut_ptr(), text.len()) }

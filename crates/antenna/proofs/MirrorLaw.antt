@@ -71,6 +71,6 @@ unfolding islewOf
 mirror-law =
     record {
       ccirgain =
-          λ p lent a n h s u giso fu fg v l x y. gain-mirror p s a (accepted-model p (length lent) h) (lentAfter p lent) u giso v l x y;
-      curtain = λ p l h azimd elevd gnorm fa fe. curtain-mirror p (at-most-3 _ l h) azimd elevd gnorm;
+          λ p lent a n h s u giso v l x y. gain-mirror p s a (accepted-model p (length lent) h) (lentAfter p lent) u giso v l x y;
+      curtain = λ p l h azimd elevd gnorm. curtain-mirror p (at-most-3 _ l h) azimd elevd gnorm;
     }

@@ -4,12 +4,10 @@ use Prim.Native.Nat.{ℕ, _-_, _≤_}
 use mathlib.Core.Path.{_≡_}
 use mathlib.Core.Logic.{_⊎_}
 use mathlib.Core.List.{List}
-use lib.Dec.{T}
 use lib.IntN.{pos, negℤ}
 use lib.Signed.{_≤ℤ_}
 use lib.ListN.{length}
 use lib.Ieee.{Float, neg, toSigned}
-use lib.Ieee.Scale.{finite}
 use Rattle.model.specs.Ops.{count}
 use Rattle.model.specs.Angle.{nintOf, jantOf}
 use Rattle.curtain.specs.Answers.{curtainGain}
@@ -26,14 +24,12 @@ Symmetric p =
     ((1 ≤ iant) × (iant ≤ 4) × (toSigned 31 (slot p 9) ≡ pos 0)) ⊎ ((5 ≤ iant) × (iant ≤ 6))
 
 pub record MirrorLaw : Type 0 where
-  -- `ccirgain`, with the antenna record and the table that set-up left, at every finite elevation and maximum gain:
+  -- `ccirgain`, with the antenna record and the table that set-up left, at every elevation and maximum gain, finite or not:
   -- the answer at each whole azimuth v from 0 to 360 but 90 and 270 is the answer at 360 - v
   pub ccirgain : (p lent : List Float) (a : Antenna) (readings : ℕ) → setUpOf p (length lent) ≡ accepted (a, readings) → Symmetric p
-      → (u giso : Float) → T (finite u) → T (finite giso)
-      → (v : ℕ) → v ≤ 360 → (v ≡ 90 → ⊥) → (v ≡ 270 → ⊥)
+      → (u giso : Float) (v : ℕ) → v ≤ 360 → (v ≡ 90 → ⊥) → (v ≡ 270 → ⊥)
       → gainOf a (lentAfter p lent) u (count v) giso ≡ gainOf a (lentAfter p lent) u (count (360 - v)) giso
-  -- `curtain::gain`, of a rounded slew from -3 to 3, whatever the other slots, the factor and the finite elevation:
-  -- the answer at every finite azimuth is the answer at its negative
+  -- `curtain::gain`, of a rounded slew from -3 to 3, whatever the other slots, the factor and the elevation:
+  -- the answer at every azimuth is the answer at its negative
   pub curtain : (p : List Float) → negℤ (pos 3) ≤ℤ nintOf (slot p 14) → nintOf (slot p 14) ≤ℤ pos 3
-      → (azimd elevd gnorm : Float) → T (finite azimd) → T (finite elevd)
-      → curtainGain p azimd elevd gnorm ≡ curtainGain p (neg azimd) elevd gnorm
+      → (azimd elevd gnorm : Float) → curtainGain p azimd elevd gnorm ≡ curtainGain p (neg azimd) elevd gnorm

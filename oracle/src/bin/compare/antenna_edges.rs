@@ -2,7 +2,6 @@
 use crate::report::Comparison;
 use oracle::expected::{Gains, ROW, TABLE};
 use oracle::reference;
-#[cfg(any(feature = "maxgain", feature = "curtain", feature = "row"))]
 use oracle::service;
 
 type Maxgain = fn(u32, &[f32], &mut [u32]) -> u32;
@@ -83,11 +82,8 @@ pub fn compare(_: u64) -> Vec<Comparison> {
         maxgain("oracle", reference::maxgain),
         curtain("oracle", reference::curtain),
         row("oracle", reference::row),
-        #[cfg(feature = "maxgain")]
         maxgain("hf_maxgain", service::maxgain),
-        #[cfg(feature = "curtain")]
         curtain("hf_curtain", service::curtain),
-        #[cfg(feature = "row")]
         row("hf_row", service::row),
     ]
 }

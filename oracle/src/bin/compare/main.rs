@@ -1,25 +1,25 @@
 //! Compares the proved library with the oracle, call by call. The last line counts the comparisons; the status is 0 only where none
 //! failed.
 //! usage: compare [CALL | CALL=CASES ..]     all calls, each with the gate's number of cases
-#![cfg_attr(not(all(source, feature = "plate")), allow(dead_code))]
+#![cfg_attr(not(source), allow(dead_code))]
 #[cfg(source)]
 mod antenna_edges;
 #[cfg(source)]
 mod cases;
-#[cfg(all(source, feature = "curtain"))]
+#[cfg(source)]
 mod curtains;
 mod edges;
-#[cfg(all(source, feature = "gains"))]
+#[cfg(source)]
 mod gains;
 mod leaves;
-#[cfg(all(source, feature = "maxgain"))]
+#[cfg(source)]
 mod maxgain;
-#[cfg(all(source, feature = "plate"))]
+#[cfg(source)]
 mod plates;
-#[cfg(all(source, feature = "record"))]
+#[cfg(source)]
 mod records;
 mod report;
-#[cfg(all(source, feature = "row"))]
+#[cfg(source)]
 mod rows;
 mod stored;
 
@@ -35,17 +35,17 @@ const CALLS: &[Call] = &[
     #[cfg(source)]
     ("antenna_edges", 1, antenna_edges::compare),
     ("leaf", 5_000_000, leaves::compare),
-    #[cfg(all(source, feature = "maxgain"))]
+    #[cfg(source)]
     ("maxgain", 300_000, maxgain::compare),
-    #[cfg(all(source, feature = "curtain"))]
+    #[cfg(source)]
     ("curtain", 30_000, curtains::compare),
-    #[cfg(all(source, feature = "gains"))]
+    #[cfg(source)]
     ("gains", 100_000, gains::compare),
-    #[cfg(all(source, feature = "row"))]
+    #[cfg(source)]
     ("row", 10_000, rows::compare),
-    #[cfg(all(source, feature = "record"))]
+    #[cfg(source)]
     ("record", 300_000, records::compare),
-    #[cfg(all(source, feature = "plate"))]
+    #[cfg(source)]
     ("plate", 20_000, plates::compare),
 ];
 

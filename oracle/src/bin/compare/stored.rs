@@ -1,4 +1,4 @@
-//! The stored stations, texts and lists of answers against those that the oracle makes now. `write_examples` and `write_replay` write
+//! The stored stations, texts and lists of answers against those that the oracle makes now. `write_stored` writes
 //! them.
 use crate::report::Comparison;
 use oracle::examples;
@@ -11,7 +11,7 @@ fn held(name: &str, files: Vec<(String, Vec<u8>)>) -> Comparison {
     let mut found = Comparison::new(name);
     for (path, bytes) in files {
         let stored = std::fs::read(format!("{ROOT}{path}")).ok();
-        found.hold(&stored, &Some(bytes), || format!("{path} is missing or another: run write_examples or write_replay"));
+        found.hold(&stored, &Some(bytes), || format!("{path} is missing or another: run write_stored"));
     }
     found
 }

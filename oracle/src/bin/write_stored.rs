@@ -1,9 +1,10 @@
-//! Writes the lists of `oracle/src/replay.rs`, answered by the oracle, into the repository.
-//! usage: write_replay     from the repository's root
+//! Writes the stored stations, their texts and the lists of answers, as the oracle makes them, into the repository.
+//! usage: write_stored     from the repository's root
 
 #[cfg(source)]
 fn main() -> std::io::Result<()> {
-    for (path, bytes) in oracle::replay::files() {
+    use oracle::{examples, replay};
+    for (path, bytes) in examples::inputs().into_iter().chain(examples::texts()).chain(replay::files()) {
         std::fs::create_dir_all(std::path::Path::new(&path).parent().unwrap())?;
         std::fs::write(&path, &bytes)?;
         println!("{path}: {} bytes", bytes.len());
