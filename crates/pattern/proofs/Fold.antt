@@ -1,6 +1,6 @@
 -- The whole azimuths k and 360 - k fold to mirrored directions, or to one: a test computed over the 361 of them, and the law that
 -- turns it into the rule.
-use mathlib.Core.Path.{_≡_, refl, sym, ap, _∙_, subst}
+use mathlib.Core.Path.{_≡_, refl, sym, subst}
 use mathlib.Core.Logic.{_⊎_, inl, inr}
 use mathlib.Core.Bool.{Bool, true, false, _&&_, _||_, Bool·beq}
 use mathlib.Core.List.{List}
@@ -10,17 +10,15 @@ use native.Mathlib.Omega.{arith}
 use borrow.Author.Tests.{eqb-true, eqb-false, ne-eqb}
 use lib.Arith.{lt-of-le-ne}
 use lib.Dec.{T, eqb, eqb→eq}
-use lib.IntN.{pos}
 use lib.ListN.{getD}
-use lib.Ieee.{Float, nan, binary32, fits, toBits, rem, toSigned, lt, le, sub, ofBits, ofInt, neg}
-use lib.Ieee.Bits.{ofBits-toBits}
-use lib.Ieee.Fits.{and-l, and-r, sub-fits, ofInt-fits}
-use Rattle.model.specs.Ops.{_⊖_, count}
+use lib.Ieee.{Float, nan, rem, toSigned, lt, le, sub, ofBits, ofInt, neg}
+use lib.Ieee.Fits.{and-l, and-r}
+use Rattle.model.specs.Ops.{count}
 use Rattle.model.specs.Angle.{ifixOf}
 use Rattle.numeric.proofs.Laws.{neg-neg}
 use Rattle.pattern.specs.declared.azimuth.Quadrant.{Quadrant}
 use Rattle.pattern.specs.Mirror.{mirror}
-use Rattle.pattern.specs.Azimuth.{deg360, signed, back180, inFirst, inSecond, inThird, quadrantOf, directionOf, behindScreen}
+use Rattle.pattern.specs.Azimuth.{signed, back180, inFirst, inSecond, inThird, quadrantOf, directionOf, behindScreen}
 
 -- ---- a test over the numbers below n
 
@@ -115,21 +113,3 @@ pub screen-mirror : (k : ℕ) → k ≤ 360 → (k ≡ 90 → ⊥) → (k ≡ 27
 unfolding folds
 screen-mirror k h n m =
     sym (beq-eq (behindScreen (count k)) (behindScreen (count (360 - k))) (and-r (alike (quadrantOf (count k)) (quadrantOf (count (360 - k)))) _ (folds-at k h n m)))
-
--- ---- 360 less a whole azimuth, as a float
-
-takes-away : ℕ → Bool
-takes-away k = eqb (toBits binary32 (deg360 ⊖ count k)) (toBits binary32 (count (360 - k)))
-
-tested-away : T (all takes-away 361)
-unfolding takes-away sub ofBits ofInt toBits
-tested-away = tt
-
-same-bits : (x y : Float) → T (fits binary32 x) → T (fits binary32 y) → toBits binary32 x ≡ toBits binary32 y → x ≡ y
-same-bits x y p q e = sym (ofBits-toBits binary32 x p) ∙ ap (ofBits binary32) e ∙ ofBits-toBits binary32 y q
-
-pub away : (k : ℕ) → k ≤ 360 → deg360 ⊖ count k ≡ count (360 - k)
-unfolding takes-away
-away k h =
-    same-bits (deg360 ⊖ count k) (count (360 - k)) (sub-fits binary32 deg360 (count k)) (ofInt-fits binary32 (pos (360 - k)))
-    (eqb→eq (toBits binary32 (deg360 ⊖ count k)) (toBits binary32 (count (360 - k))) (all-at takes-away 361 tested-away k (omega arith)))

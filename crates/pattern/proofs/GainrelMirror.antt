@@ -1,5 +1,5 @@
 -- `gainrel`'s mirror law over the whole azimuths: types 1 to 4 without slew, and types 5 and 6.
-use mathlib.Core.Path.{_≡_, refl, sym, ap, _∙_}
+use mathlib.Core.Path.{_≡_, refl, sym}
 use mathlib.Core.Logic.{_⊎_, inl, inr}
 use mathlib.Core.Bool.{Bool, true, false, cond}
 use mathlib.Core.List.{List}
@@ -8,15 +8,15 @@ use native.Mathlib.Omega.{arith}
 use borrow.Author.Tests.{eqb-true, ne-eqb}
 use lib.Dec.{eqb}
 use lib.Ieee.{Float}
-use Rattle.model.specs.Ops.{_⊖_, +0, count}
+use Rattle.model.specs.Ops.{+0, count}
 use Rattle.model.specs.Angle.{ifixOf}
 use Rattle.model.specs.declared.record.Direction.{Direction}
 use Rattle.model.specs.declared.record.Model.{Model}
 use Rattle.pattern.specs.Mirror.{mirror}
-use Rattle.pattern.specs.Azimuth.{deg360, quadrantOf, directionOf, behindScreen}
+use Rattle.pattern.specs.Azimuth.{quadrantOf, directionOf, behindScreen}
 use Rattle.pattern.specs.Gainrel.{factorsIn, gainIn, gainRel}
 use Rattle.pattern.proofs.Mirror.{gain1-mirror, gain2-mirror, gain3-mirror, gain4-mirror, gain5-mirror, gain6-mirror}
-use Rattle.pattern.proofs.Fold.{direction-mirror, screen-mirror, away}
+use Rattle.pattern.proofs.Fold.{direction-mirror, screen-mirror}
 
 -- equal where the test holds, and equal where it does not
 either : (i n : ℕ) {x x' y y' : Float} → (i ≡ n → x ≡ x') → y ≡ y' → cond (eqb i n) x y ≡ cond (eqb i n) x' y'
@@ -52,7 +52,3 @@ module _ (m : Model) (six : m .iant ≤ 6) (z : m .iant ≤ 4 → m .constants .
       go : (D (360 - n) ≡ mirror (D n)) ⊎ (D (360 - n) ≡ D n) → gainRel m table u (count n) ≡ gainRel m table u (count (360 - n))
       go (inl e) = rw (screen-mirror n h a b, e) (sym (gainIn-mirror (ifixOf u) (D n) (behindScreen (count n))))
       go (inr e) = rw (screen-mirror n h a b, e)
-
-  -- with 360 less the azimuth computed in floats
-  pub gainRel-mirror-360 : (u : Float) (n : ℕ) → n ≤ 360 → (n ≡ 90 → ⊥) → (n ≡ 270 → ⊥) → gainRel m table u (count n) ≡ gainRel m table u (deg360 ⊖ count n)
-  gainRel-mirror-360 u n h a b = gainRel-mirror u n h a b ∙ ap (gainRel m table u) (sym (away n h))
