@@ -26,8 +26,8 @@ pub fn elevation(random: &mut Random) -> f32 {
     }
 }
 
-/// Stations of any type with realistic gains, sometimes broken, as a record and three floats.
-fn plate(random: &mut Random) -> Vec<u8> {
+/// The record of a station of any type with realistic gains, sometimes broken.
+fn station(random: &mut Random) -> Vec<u8> {
     let parm = stations::station(random);
     let mut words = [random.pick(&[0, 0, 0, 1, 1, 2, 2, 3]); WORDS];
     for (word, x) in words[1..].iter_mut().zip(parm) {
@@ -40,6 +40,12 @@ fn plate(random: &mut Random) -> Vec<u8> {
     let mut bytes = vec![0; BYTES];
     // Words that can't be written leave zeros, a record too.
     let _ = record::write(&words, &mut bytes);
+    bytes
+}
+
+/// A record, then operating MHz, design MHz and elevation, each at times odd.
+fn plate(random: &mut Random) -> Vec<u8> {
+    let mut bytes = station(random);
     let frequency = |random: &mut Random| if random.below(15) == 0 { stations::odd(random) } else { random.between(1.0, 31.0) };
     let elevation = if random.below(12) == 0 { stations::odd(random) } else { random.below(91) as f32 };
     for x in [frequency(random), frequency(random), elevation] {
