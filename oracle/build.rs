@@ -1,6 +1,10 @@
 //! Links the proved static library `service`, which `rt staticlib service` writes from the repository's root, and takes the Rust
 //! module of the antennas from the source tree: the folder that HFCAST_SRC names, or ../shared/docs/src beside the repository.
 //! None of the source's text is committed. Where it isn't at hand, the crate builds without the comparisons that need it.
+#[path = "src/impostors.rs"]
+#[allow(dead_code)]
+mod impostors;
+
 use std::path::{Path, PathBuf};
 
 fn main() {
@@ -11,9 +15,10 @@ fn main() {
     if let Some(file) = source_file(&root) {
         println!("cargo:rustc-cfg=source");
         println!("cargo:rerun-if-changed={}", file.display());
-        let text = std::fs::read_to_string(&file).unwrap();
-        let out = PathBuf::from(std::env::var("OUT_DIR").unwrap()).join("ccir.rs");
-        std::fs::write(out, edited(text)).unwrap();
+        let text = edited(std::fs::read_to_string(&file).unwrap());
+        let out = PathBuf::from(std::env::var("OUT_DIR").unwrap());
+        std::fs::write(out.join("ccir.rs"), &text).unwrap();
+        write_impostors(text, &root.join("oracle/src"), &out.join("impostor"));
     }
 }
 
@@ -52,4 +57,28 @@ fn edited(text: String) -> String {
 fn replaced(text: String, old: &str, new: &str, times: usize) -> String {
     assert_eq!(text.matches(old).count(), times, "the source has {old} another number of times");
     text.replace(old, new)
+}
+
+/// The source and the oracle over it once more, each with its impostors' switches: `src/impostor.rs` includes them.
+fn write_impostors(ccir: String, src: &Path, out: &Path) {
+    std::fs::create_dir_all(out).unwrap();
+    std::fs::write(out.join("ccir.rs"), switched(ccir, "ccir.rs")).unwrap();
+    for name in ["source.rs", "expected.rs", "plate.rs", "reference.rs"] {
+        println!("cargo:rerun-if-changed={}", src.join(name).display());
+        let text = std::fs::read_to_string(src.join(name)).unwrap().replace("//!", "//").replace("/ccir.rs", "/impostor/ccir.rs");
+        std::fs::write(out.join(name), switched(text, name)).unwrap();
+    }
+}
+
+/// Puts a switch at the place of each impostor of this file.
+fn switched(mut text: String, file: &str) -> String {
+    for (k, impostor) in impostors::IMPOSTORS.iter().enumerate().filter(|(_, impostor)| impostor.file == file) {
+        let impostors::Impostor { name, after, old, new, .. } = impostor;
+        let from = text.find(after).unwrap_or_else(|| panic!("{name}: {file} has no {after}"));
+        let at = from + text[from..].find(old).unwrap_or_else(|| panic!("{name}: {file} has no {old} after {after}"));
+        let either = format!("if crate::impostor::is({k}) {{ {new} }} else {{ {old} }}");
+        let either = if old.ends_with(';') { either } else { format!("({either})") };
+        text.replace_range(at..at + old.len(), &either);
+    }
+    text
 }

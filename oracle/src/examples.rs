@@ -142,7 +142,7 @@ impl Station {
     }
 }
 
-/// The stations of `examples/` by name.
+/// The stations of `examples/` by name; document 01's Case Q is an empty one.
 fn named() -> Vec<(&'static str, Vec<u8>)> {
     let stations = [
         ("case-p", CASE_P),
@@ -158,7 +158,7 @@ fn named() -> Vec<(&'static str, Vec<u8>)> {
         ("relative", RELATIVE),
         ("refused", REFUSED),
     ];
-    stations.map(|(name, station)| (name, station.input())).into()
+    stations.iter().map(|(name, station)| (*name, station.input())).chain([("case-q", vec![])]).collect()
 }
 
 /// An input for each refusal that the program can give, 1 to 7, 9 and 10: it lends itself the space that 8 is about.
@@ -182,16 +182,23 @@ fn refusals() -> Vec<Vec<u8>> {
     [short, infinite].into_iter().chain(stations.iter().map(Station::input)).collect()
 }
 
-/// The inputs of the crate `plate_cases` in its order: an antenna of each type, floors, then the refusals.
+/// Lengths that aren't a station's: Case Q, and a station with zeros after it.
+fn lengths() -> Vec<Vec<u8>> {
+    let long = [TYPE_1.input(), vec![0; 63]].concat();
+    vec![vec![], long[..238].to_vec(), long]
+}
+
+/// The inputs of the crate `test_plate` in its order: an antenna of each type, floors, then the refusals and the lengths.
 fn cases() -> Vec<Vec<u8>> {
-    let antennas = named().into_iter().filter(|(name, _)| !["case-p", "refused"].contains(name)).map(|(_, input)| input);
-    antennas.chain(refusals()).collect()
+    let is_antenna = |name: &str| name.starts_with("type-") || name == "relative";
+    let antennas = named().into_iter().filter(|(name, _)| is_antenna(name)).map(|(_, input)| input);
+    antennas.chain(refusals()).chain(lengths()).collect()
 }
 
 /// The stored inputs: their place below the repository's root, and their bytes. The cases are named by letters.
 pub fn inputs() -> Vec<(String, Vec<u8>)> {
     let examples = named().into_iter().map(|(name, input)| (format!("examples/{name}.station"), input));
-    let cases = ('a'..='z').zip(cases()).map(|(letter, input)| (format!("crates/plate_cases/data/{letter}"), input));
+    let cases = ('a'..='z').zip(cases()).map(|(letter, input)| (format!("crates/test_plate/data/{letter}"), input));
     examples.chain(cases).chain([("crates/plate/stdin".into(), CASE_P.input())]).collect()
 }
 
@@ -199,7 +206,7 @@ pub fn inputs() -> Vec<(String, Vec<u8>)> {
 #[cfg(source)]
 pub fn texts() -> Vec<(String, Vec<u8>)> {
     let examples = named().into_iter().map(|(name, input)| (format!("examples/{name}.txt"), plate::output(&input).into_bytes()));
-    let runs = [("plate", vec![CASE_P.input()]), ("plate_empty", vec![vec![]]), ("plate_cases", cases())];
+    let runs = [("plate", vec![CASE_P.input()]), ("test_plate", cases())];
     let written = |inputs: Vec<Vec<u8>>| inputs.iter().map(|input| plate::output(input)).collect::<String>().into_bytes();
     examples.chain(runs.map(|(crate_name, inputs)| (format!("crates/{crate_name}/stdout"), written(inputs)))).collect()
 }

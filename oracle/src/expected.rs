@@ -1,7 +1,7 @@
 //! What document 01 expects of each call: the source's answer, and before it the refusals, lowest number first.
-use crate::source::antenna::AntennaFile;
-use crate::source::ccir::{antinit2, curtain, setmaxgain, CcirAntenna};
-use crate::source::take_readings;
+use super::source::antenna::AntennaFile;
+use super::source::ccir::{antinit2, curtain, setmaxgain, CcirAntenna};
+use super::source::take_readings;
 
 pub type Refusal = u32;
 pub type Parm = [f32; 20];

@@ -1,10 +1,16 @@
 //! The judge of the Rattle: document 01's rules written apart from it, the source's Rust over those rules, and the proved library
 //! behind safe wrappers.
 pub mod broken;
+pub mod calls;
 pub mod examples;
 #[cfg(source)]
 pub mod expected;
+#[cfg(source)]
+pub mod impostor;
+pub mod impostors;
 pub mod leaf;
+#[cfg(source)]
+pub mod lists;
 pub mod plain;
 #[cfg(source)]
 pub mod plate;
@@ -12,10 +18,10 @@ pub mod random;
 pub mod record;
 #[cfg(source)]
 pub mod reference;
-#[cfg(source)]
-pub mod replay;
+pub mod report;
 pub mod rules;
 pub mod service;
 #[cfg(source)]
 pub mod source;
 pub mod stations;
+pub mod stored;

@@ -1,5 +1,5 @@
 //! The program `plate` of document 01: a record and three floats in, 360 lines or one refusal out.
-use crate::expected::{self, Gain, Gains, Refusal, ROW, TABLE};
+use super::expected::{self, Gain, Gains, Refusal, ROW, TABLE};
 use crate::record;
 
 const INPUT: usize = record::BYTES + 12;

@@ -1,7 +1,9 @@
 //! What `service` exports, in Rust over `expected`: the same arguments, the same words out, lent buffers left alone on a refusal.
 //! A slice of the wrong length is refused as 8 before anything else, except a lent table and row, whose place is document 01's.
-use crate::expected::{self, Gains, Refusal, SPACE, TABLE};
-use crate::{plate as program, record};
+use super::expected::{self, Gains, Refusal, SPACE, TABLE};
+use super::plate as program;
+pub use crate::leaf::by_rules as leaf;
+use crate::record;
 
 /// The refusal's number, or 0.
 fn code(answer: Result<(), Refusal>) -> u32 {

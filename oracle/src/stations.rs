@@ -152,10 +152,8 @@ fn stretched(random: &mut Random, parm: &mut Parm) {
     }
 }
 
-/// A station of any type, its type's slot sometimes a fraction that rounds to it.
-pub fn station(random: &mut Random) -> Parm {
-    let jant = 1 + random.below(9) as u32;
-    let mut parm = realistic(random, jant);
+/// A realistic station made longer, its type's slot a fraction that rounds to it, slots disturbed: each sometimes.
+pub fn altered(random: &mut Random, mut parm: Parm) -> Parm {
     if random.below(12) == 0 {
         stretched(random, &mut parm);
     }
@@ -163,6 +161,13 @@ pub fn station(random: &mut Random) -> Parm {
         parm[1] += random.pick(&[-0.5, -0.49, 0.3, 0.499_999, 0.5]);
     }
     disturbed(random, parm)
+}
+
+/// A station of any type.
+pub fn station(random: &mut Random) -> Parm {
+    let jant = 1 + random.below(9) as u32;
+    let parm = realistic(random, jant);
+    altered(random, parm)
 }
 
 /// A maximum gain; at times one that lifts or sinks every level, or is none.

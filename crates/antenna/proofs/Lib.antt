@@ -1,8 +1,6 @@
-pub mod Readings
-pub mod Accepted
-pub mod Copies
-pub mod Rows
-pub mod Outcomes
+-- Laws that other crates cite, and what the proofs of several modules share; what those of one module share stands in its folder.
+pub mod Edges
+pub mod Mirror
 pub mod RowGains
-pub mod MirrorLaw
-pub mod StarredEdges
+mod Granted
+pub mod Outcomes

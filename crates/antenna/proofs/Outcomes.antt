@@ -9,22 +9,20 @@ use lib.ListN.{length}
 use lib.Dec.{ltb}
 use lib.Ieee.{Float}
 use lib.Ieee.Scale.{finite}
-use Rattle.model.specs.Angle.{jantOf}
-use Rattle.model.specs.Ranges.{allFinite}
-use Rattle.model.specs.Counts.{countsOk}
-use Rattle.model.specs.Table.{tableSize}
-use Rattle.model.proofs.Tests.{both}
+use Rattle.model.specs.Types.{jantOf}
+use Rattle.floats.specs.Ranges.{allFinite}
+use Rattle.floats.proofs.Tests.{both}
 use Rattle.ground.specs.Table.{tableOf}
-use Rattle.model.specs.Answers.{Outcome, refused, accepted}
-use Rattle.model.specs.Limits.{slot, typeOk}
+use Rattle.answers.specs.Outcome.{Outcome, refused, accepted}
+use Rattle.model.specs.Limits.{slot}
+use Rattle.antenna.specs.Asked.{askedRefusal}
 use Rattle.antenna.specs.Limits.{startOf, refusalOf}
 use Rattle.antenna.specs.Search.{gainormOf}
 use Rattle.antenna.specs.SetUp.{modelOf, searchRefused, acceptedOf, found, searched, setUpOf}
-use Rattle.antenna.specs.Gain.{Kind, graded, numberAt, gainOf}
-use Rattle.antenna.specs.Row.{numbersOf, frontToBack, measured, rowRefusal, rowOf}
+use Rattle.antenna.specs.Gain.{Kind, graded, numberAt, gainAsked, gainOf}
+use Rattle.antenna.specs.Row.{numbersOf, frontToBack, measured, rowAsked, rowOf}
 use Rattle.antenna.specs.declared.record.Antenna.{Antenna}
 use Rattle.antenna.specs.declared.search.Search.{Search}
-use Rattle.antenna.proofs.Accepted.{set-up-found, found-accepted}
 
 -- an accepted outcome passed its first test
 pub passed : {A : Type 0} (b : Bool) (n : ℕ) (rest : Outcome A) {x : A} → cond b (refused n) rest ≡ accepted x → (b ≡ false) × (rest ≡ accepted x)
@@ -47,9 +45,8 @@ module _ (p : List Float) (size : ℕ) where
 
   -- accepted just when the limits are met and every gain of the search, and what it found, is finite
   pub accepted-when : Met → setUpOf p size ≡ acceptedOf (modelOf (jantOf (slot p 1)) p) searchOf
-  accepted-when m =
-      set-up-found p size 0 (jantOf (slot p 1)) refl (sym (m .limits)) _ _ (omega arith) refl refl
-      ∙ found-accepted _ _ false (sym (m .search)) refl
+  unfolding setUpOf searched found
+  accepted-when m = simp (m .limits, m .search)
 
   pub accepted-only-when : {a : Antenna × ℕ} → setUpOf p size ≡ accepted a → Met
   unfolding setUpOf searched found
@@ -69,11 +66,8 @@ pub accepted-gain-finite : (a : Antenna) (t : List Float) (u v giso : Float) {k 
 unfolding gainOf graded
 accepted-gain-finite a t u v giso {k} {g} h =
     let n = numberAt (a .model) (a .peak .z6) t u v giso in
-    let h3 = passed (not (finite u && finite v && finite giso)) _ _ h .1 in
-    let h6 = passed (not (typeOk (a .model .iant))) _ _ h3 .1 in
-    let h8 = passed (not (countsOk (a .model))) _ _ h6 .1 in
-    let h10 = passed (ltb (length t) tableSize) _ _ h8 .1 in
-    let s = passed (not (finite n)) _ _ h10 in
+    let asked = passed (ltb 0 (askedRefusal (a .model) (length t) (gainAsked u v giso))) _ _ h .1 in
+    let s = passed (not (finite n)) _ _ asked in
     rw (ap (λ (w : Kind × Float). w .1) (same (s .1))) at (not-false (finite n) (s .0))
 
 pub accepted-row-finite : (a : Antenna) (t : List Float) (u giso : Float) (size : ℕ) {x : Float} → rowOf a t u giso size ≡ accepted x
@@ -81,7 +75,7 @@ pub accepted-row-finite : (a : Antenna) (t : List Float) (u giso : Float) (size 
 unfolding rowOf measured
 accepted-row-finite a t u giso size {x} h =
     let row = numbersOf a t u giso in
-    let m = passed (ltb 0 (rowRefusal (a .model) (length t) u giso size)) _ _ h .1 in
+    let m = passed (ltb 0 (askedRefusal (a .model) (length t) (rowAsked u giso size))) _ _ h .1 in
     let s = passed (not (allFinite row && finite (frontToBack row))) _ _ m in
     let f = both (allFinite row) (finite (frontToBack row)) (not-false _ (s .0)) in
     (f .0, rw (same (s .1)) at (f .1))

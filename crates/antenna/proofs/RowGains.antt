@@ -4,22 +4,22 @@ use mathlib.Core.Path.{_≡_, refl}
 use mathlib.Core.Bool.{true}
 use mathlib.Core.List.{List}
 use native.Mathlib.Omega.{arith}
-use borrow.Author.Tests.{ltb-false, le-ltb}
+use borrow.Author.Tests.{ltb-false}
 use lib.Dec.{T, ltb, le→leb}
 use lib.ListN.{length, getD}
 use lib.Ieee.{Float, nan, inf, fin, binary32, inSigned, inFloat}
 use lib.Ieee.Scale.{finite}
 use lib.Ieee.Back.{positive-back}
-use Rattle.model.specs.Ops.{count}
-use Rattle.model.specs.Answers.{accepted}
-use Rattle.model.specs.Table.{tableSize}
-use Rattle.model.proofs.Tests.{both, finite-at}
-use Rattle.model.proofs.Filled.{filled-length, filled-at}
-use Rattle.antenna.specs.Gain.{kindOf, graded, numberAt, gainOf}
-use Rattle.antenna.specs.Row.{numbersOf, rowRefusal, rowOf}
+use Rattle.floats.specs.Ops.{count}
+use Rattle.answers.specs.Outcome.{accepted}
+use Rattle.floats.proofs.Tests.{both, finite-at}
+use Rattle.floats.proofs.Filled.{filled-length, filled-at}
+use Rattle.antenna.specs.Asked.{askedRefusal}
+use Rattle.antenna.specs.Gain.{kindOf, graded, numberAt, gainAsked, gainOf}
+use Rattle.antenna.specs.Row.{numbersOf, rowAsked, rowOf}
 use Rattle.antenna.specs.declared.record.Antenna.{Antenna}
 use Rattle.antenna.proofs.Outcomes.{passed, accepted-row-finite}
-use Rattle.antenna.proofs.Rows.{Measurable, measurable}
+use Rattle.antenna.proofs.Granted.{Granted, granted, none-refused}
 
 whole-finite : (x : Float) → T (inSigned binary32 31 x) → finite x ≡ true
 unfolding inSigned
@@ -41,12 +41,25 @@ module _ (a : Antenna) (t : List Float) (u giso : Float) where
   row-number v h = filled-at at-azimuth 360 360 v (omega arith) h
 
   module _ {x : Float} (h : rowOf a t u giso 360 ≡ accepted x) where
-    limits : Measurable (a .model) (length t) u giso 360
+    limits : Granted (a .model) (length t) (rowAsked u giso 360)
     unfolding rowOf
     limits =
-        let number = rowRefusal (a .model) (length t) u giso 360 in
+        let number = askedRefusal (a .model) (length t) (rowAsked u giso 360) in
         let none = ltb-false 0 number (passed (ltb 0 number) _ _ h .0) in
-        measurable (a .model) (length t) u giso 360 (omega (arith, none))
+        granted (a .model) (length t) (rowAsked u giso 360) (omega (arith, none))
+
+    gain-limits : (v : ℕ) → v < 360 → Granted (a .model) (length t) (gainAsked u (count v) giso)
+    unfolding rowAsked gainAsked
+    gain-limits v i =
+        let values = both (finite u) (finite giso) (limits .values) in
+        record {
+          values = simp (values .0, values .1, azimuth-finite v (omega arith));
+          type = limits .type;
+          counts = limits .counts;
+          aim = refl;
+          table = limits .table;
+          space = refl;
+        }
 
     number-finite : (v : ℕ) → v < 360 → finite (at-azimuth v) ≡ true
     unfolding numbersOf
@@ -57,6 +70,4 @@ module _ (a : Antenna) (t : List Float) (u giso : Float) where
     pub accepted-row-gains : (v : ℕ) → v < 360
         → let g = getD (numbersOf a t u giso) v nan in gainOf a t u (count v) giso ≡ accepted (kindOf (a .peak .z6) g, g)
     unfolding gainOf graded
-    accepted-row-gains v i =
-        let values = both (finite u) (finite giso) (limits .values) in
-        simp (row-number v i, values .0, values .1, azimuth-finite v (omega arith), limits .type, limits .counts, le-ltb (length t) tableSize (limits .table), number-finite v i)
+    accepted-row-gains v i = simp (none-refused _ _ _ (gain-limits v i), row-number v i, number-finite v i)

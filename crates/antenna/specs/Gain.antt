@@ -1,19 +1,20 @@
 -- Document 01, part 7 and "Answers": `ccirgain`, the gain at a direction with its kind, and its refusals. Definitions only.
-use mathlib.Core.Bool.{cond, not, _&&_}
+use mathlib.Core.Bool.{true, cond, not, _&&_}
 use mathlib.Core.List.{List}
 use lib.ListN.{length}
 use lib.Dec.{ltb}
 use lib.Ieee.{Float, neg, lt, le, eq}
 use lib.Ieee.Scale.{finite}
 use Rattle.numeric.specs.Logarithm.{log10Of}
-use Rattle.model.specs.Ops.{_⊕_, _⊗_, _⊘_, +0}
-use Rattle.model.specs.Literals.{literal, twenty, thirty}
-use Rattle.model.specs.Counts.{countsOk}
-use Rattle.model.specs.Table.{tableSize}
+use Rattle.floats.specs.Ops.{_⊕_, _⊗_, _⊘_, +0}
+use Rattle.floats.specs.Literals.{twenty, thirty}
 use Rattle.model.specs.declared.record.Model.{Model}
 use Rattle.pattern.specs.Gainrel.{gainRel}
-use Rattle.model.specs.Answers.{Outcome, refused, accepted}
-use Rattle.model.specs.Limits.{typeOk}
+use Rattle.answers.specs.Outcome.{Outcome, refused, accepted}
+use Rattle.answers.specs.Refusals.{LEVEL}
+use Rattle.antenna.specs.Literals.{floorRatio}
+use Rattle.antenna.specs.Asked.{askedRefusal}
+use Rattle.antenna.specs.declared.asked.Asked.{Asked}
 use Rattle.antenna.specs.declared.record.Antenna.{Antenna}
 use Rattle.antenna.specs.declared.gain.Gain.{Gain}
 use Rattle.antenna.specs.declared.gain.Gain.the-variants.{Level, Floor, Silence, Refused}
@@ -21,10 +22,6 @@ use Rattle.antenna.specs.declared.gain.Gain.the-variants.{Level, Floor, 
 -- FLOOR, negated
 abbrev pub floorLevel : Float
 floorLevel = neg thirty
-
--- 0.03162278
-abbrev pub floorRatio : Float
-floorRatio = literal 0x3d0186e3
 
 -- -30 where x lies below it
 unfoldable pub floored : Float → Float
@@ -47,22 +44,23 @@ pub data Kind : Type 0 where
 unfoldable pub kindOf : Float → Float → Kind
 kindOf z6 g = cond (eq z6 +0) silence (cond (eq g floorLevel) floor level)
 
--- 10: the number isn't finite
+-- a number that isn't finite is refused
 unfoldable pub graded : Float → Float → Outcome (Kind × Float)
-graded z6 g = cond (not (finite g)) (refused 10) (accepted (kindOf z6 g, g))
+graded z6 g = cond (not (finite g)) (refused LEVEL) (accepted (kindOf z6 g, g))
 
 -- the number at elevation u and azimuth v
 unfoldable pub numberAt : Model → Float → List Float → Float → Float → Float → Float
 numberAt m z6 t u v giso = decibelsOf (gainRel m t u v) z6 giso
 
--- `ccirgain`, the lowest refusal first
+-- what a gain asks: its elevation is any, and it needs no space
+unfoldable pub gainAsked : Float → Float → Float → Asked
+gainAsked u v giso = record { values = finite u && finite v && finite giso; aim = true; space = true }
+
+-- `ccirgain`
 unfoldable pub gainOf : Antenna → List Float → Float → Float → Float → Outcome (Kind × Float)
 gainOf a t u v giso =
-    cond (not (finite u && finite v && finite giso)) (refused 2)
-    (cond (not (typeOk (a .model .iant))) (refused 3)
-    (cond (not (countsOk (a .model))) (refused 6)
-    (cond (ltb (length t) tableSize) (refused 8)
-    (graded (a .peak .z6) (numberAt (a .model) (a .peak .z6) t u v giso)))))
+    let number = askedRefusal (a .model) (length t) (gainAsked u v giso) in
+    cond (ltb 0 number) (refused number) (graded (a .peak .z6) (numberAt (a .model) (a .peak .z6) t u v giso))
 
 -- what each case of the answer says
 unfoldable pub gainAnswer : Gain → Outcome (Kind × Float)

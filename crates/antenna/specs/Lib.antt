@@ -1,11 +1,11 @@
--- The definitions that contracts cite: one file for each subject.
+-- The definitions that contracts cite: one file for each subject. All are document 01's or the source's own; `Search` has in
+-- addition a name for each step of its passes.
+pub mod Literals
 pub mod Whole
 pub mod Search
-pub mod Copy
 pub mod Limits
 pub mod TypeConstants
 pub mod SetUp
+pub mod Asked
 pub mod Gain
 pub mod Row
-pub mod MirrorLaw
-pub mod StarredEdges

@@ -1,27 +1,27 @@
 -- Document 01, part 9: the plate row, with its refusals. Definitions only.
 use Prim.Native.Nat.{ℕ}
-use mathlib.Core.Bool.{Bool, cond, not, _&&_, _||_}
+use mathlib.Core.Bool.{Bool, cond, not, _&&_}
 use mathlib.Core.List.{List}
 use lib.ListN.{length, getD}
 use lib.Dec.{ltb, eqb}
 use lib.Ieee.{Float, nan, eq}
 use lib.Ieee.Scale.{finite}
-use Rattle.model.specs.Literals.{ninety}
-use Rattle.model.specs.Ops.{_⊖_, count, +0}
-use Rattle.model.specs.Ranges.{between, allFinite}
-use Rattle.model.specs.Counts.{countsOk}
-use Rattle.model.specs.Table.{tableSize}
-use Rattle.model.specs.Filled.{filledTo}
+use Rattle.floats.specs.Literals.{ninety}
+use Rattle.floats.specs.Ops.{_⊖_, count, +0}
+use Rattle.floats.specs.Ranges.{between, allFinite}
+use Rattle.floats.specs.Filled.{filledTo}
 use Rattle.model.specs.declared.record.Model.{Model}
-use Rattle.model.specs.Answers.{Outcome, refused, accepted}
+use Rattle.answers.specs.Outcome.{Outcome, refused, accepted}
+use Rattle.answers.specs.Refusals.{LEVEL}
 use Rattle.antenna.specs.Whole.{wholeOf}
-use Rattle.model.specs.Limits.{typeOk}
+use Rattle.antenna.specs.Asked.{askedRefusal}
 use Rattle.antenna.specs.Gain.{numberAt}
 use Rattle.antenna.specs.declared.record.Antenna.{Antenna}
+use Rattle.antenna.specs.declared.asked.Asked.{Asked}
 use Rattle.antenna.specs.declared.row.PlateRow.{PlateRow}
 use Rattle.antenna.specs.declared.row.PlateRow.the-variants.{FrontToBack, Refused}
 
--- 7: a whole elevation 0..90, -0 too
+-- a whole elevation 0..90, -0 too
 unfoldable pub elevationOk : Float → Bool
 elevationOk u = between u +0 ninety && eq u (wholeOf u)
 
@@ -36,23 +36,18 @@ numbersOf a t u giso = rowTo (a .model) (a .peak .z6) t u giso 360
 unfoldable pub frontToBack : List Float → Float
 frontToBack row = getD row 0 nan ⊖ getD row 180 nan
 
--- 10: a number or front-to-back isn't finite
+-- refused where a number or front-to-back isn't finite
 unfoldable pub measured : List Float → Outcome Float
-measured row = cond (not (allFinite row && finite (frontToBack row))) (refused 10) (accepted (frontToBack row))
+measured row = cond (not (allFinite row && finite (frontToBack row))) (refused LEVEL) (accepted (frontToBack row))
 
--- the first refusal that needs no number, with a table of size floats and n floats lent for the row; 0 where there is none
-unfoldable pub rowRefusal : Model → ℕ → Float → Float → ℕ → ℕ
-rowRefusal m size u giso n =
-    cond (not (finite u && finite giso)) 2
-    (cond (not (typeOk (m .iant))) 3
-    (cond (not (countsOk m)) 6
-    (cond (not (elevationOk u)) 7
-    (cond (ltb size tableSize || not (eqb n 360)) 8 0))))
+-- what a row asks, with n floats lent for it
+unfoldable pub rowAsked : Float → Float → ℕ → Asked
+rowAsked u giso n = record { values = finite u && finite giso; aim = elevationOk u; space = eqb n 360 }
 
 -- the row at elevation u, with n floats lent for it
 unfoldable pub rowOf : Antenna → List Float → Float → Float → ℕ → Outcome Float
 rowOf a t u giso n =
-    let number = rowRefusal (a .model) (length t) u giso n in
+    let number = askedRefusal (a .model) (length t) (rowAsked u giso n) in
     cond (ltb 0 number) (refused number) (measured (numbersOf a t u giso))
 
 -- what each case of the answer says

@@ -5,28 +5,16 @@ use mathlib.Core.List.{List}
 use lib.Dec.{ltb, eqb}
 use lib.Ieee.{Float, lt, le, ne, toSigned}
 use lib.Ieee.Scale.{finite}
-use Rattle.model.specs.Ops.{_⊕_, _⊖_, _⊘_, count, +0}
-use Rattle.model.specs.Literals.{literal, one, two, ten}
-use Rattle.model.specs.Angle.{natural}
+use Rattle.floats.specs.Ops.{_⊕_, _⊖_, _⊘_, count, +0}
+use Rattle.floats.specs.Literals.{one, two, ten}
+use Rattle.floats.specs.Rounding.{natural}
 use Rattle.model.specs.declared.record.Model.{Model}
 use Rattle.pattern.specs.Gainrel.{gainRel}
+use Rattle.antenna.specs.Literals.{five, fortyFive, west, fullCircle}
 use Rattle.antenna.specs.declared.record.Peak.{Peak}
 use Rattle.antenna.specs.declared.search.Best.{Best}
 use Rattle.antenna.specs.declared.search.Scan.{Scan}
 use Rattle.antenna.specs.declared.search.Search.{Search}
-
-abbrev pub five : Float
-five = literal 0x40a00000
-
-abbrev pub fortyFive : Float
-fortyFive = literal 0x42340000
-
--- 270, where the sweep starts
-abbrev pub west : Float
-west = literal 0x43870000
-
-abbrev pub fullCircle : Float
-fullCircle = literal 0x43b40000
 
 -- a gain met in the search: it is counted, and the search is sound while every gain is finite
 unfoldable pub noted : Scan → Float → Best → Float → Scan

@@ -6,21 +6,22 @@ use lib.ListN.{length, replicate}
 use lib.Dec.{ltb}
 use lib.Ieee.{Float, toSigned}
 use lib.Ieee.Scale.{finite}
-use Rattle.model.specs.Ops.{_⊘_, +0}
-use Rattle.model.specs.Literals.{two}
-use Rattle.model.specs.Angle.{jantOf}
+use Rattle.floats.specs.Ops.{_⊘_, +0}
+use Rattle.floats.specs.Literals.{two}
+use Rattle.model.specs.Types.{jantOf, arrayType, logPeriodic}
 use Rattle.model.specs.declared.record.Model.{Model}
 use Rattle.ground.specs.Trig.{trigTables}
 use Rattle.ground.specs.Ground.{groundOf}
-use Rattle.ground.specs.Table.{logPeriodic, tableOf}
+use Rattle.ground.specs.Table.{tableOf}
 use Rattle.logperiodic.specs.LogPeriodic.{logParm}
 use Rattle.logperiodic.specs.declared.geometry.Design.{Design}
 use Rattle.logperiodic.specs.declared.logparm.LogPeriodic.{LogPeriodic}
-use Rattle.model.specs.Answers.{Outcome, refused, accepted}
-use Rattle.antenna.specs.Copy.{laidOver}
+use Rattle.answers.specs.Outcome.{Outcome, refused, accepted}
+use Rattle.answers.specs.Refusals.{PATTERN}
+use Rattle.words.specs.Laid.{laid}
 use Rattle.antenna.specs.Whole.{nonZero}
 use Rattle.model.specs.Limits.{slot}
-use Rattle.antenna.specs.Limits.{nelOf, arrayType, startOf, refusalOf}
+use Rattle.antenna.specs.Limits.{nelOf, startOf, refusalOf}
 use Rattle.antenna.specs.TypeConstants.{rlambdaOf, betaOf, constantsOf}
 use Rattle.antenna.specs.Search.{gainormOf}
 use Rattle.antenna.specs.declared.record.Antenna.{Antenna}
@@ -63,7 +64,7 @@ modelOf iant p =
     let k = constantsOf iant p (l .boom) in
     record { iant = iant; slewed = slewedOf iant p; constants = k; elements = l .elements; trig = trigTables; ground = groundOf iant k trigTables }
 
--- 9: a gain met in the search, or z6, umax, vmax after it, isn't finite
+-- a gain met in the search, or z6, umax, vmax after it, isn't finite
 unfoldable pub searchRefused : Search → Bool
 searchRefused s = not (s .sound && finite (s .peak .z6) && finite (s .peak .umax) && finite (s .peak .vmax))
 
@@ -72,7 +73,7 @@ unfoldable pub acceptedOf : Model → Search → Outcome (Antenna × ℕ)
 acceptedOf m s = accepted (record { model = m; peak = s .peak }, s .readings)
 
 unfoldable pub found : Model → Search → Outcome (Antenna × ℕ)
-found m s = cond (searchRefused s) (refused 9) (acceptedOf m s)
+found m s = cond (searchRefused s) (refused PATTERN) (acceptedOf m s)
 
 unfoldable pub searched : ℕ → List Float → Outcome (Antenna × ℕ)
 searched iant p = let m = modelOf iant p in found m (gainormOf m (tableOf m) (startOf iant p))
@@ -95,7 +96,7 @@ setUpAnswer s = said (s .answer) (s .antenna)
 -- the lent floats afterwards: the antenna's table, then those past it; after a refusal what they were
 unfoldable pub keptAfter : Outcome (Antenna × ℕ) → List Float → List Float
 keptAfter (refused n) lent = lent
-keptAfter (accepted a) lent = laidOver (tableOf (a .0 .model)) lent
+keptAfter (accepted a) lent = laid lent 0 (tableOf (a .0 .model))
 
 unfoldable pub lentAfter : List Float → List Float → List Float
 lentAfter p lent = keptAfter (setUpOf p (length lent)) lent

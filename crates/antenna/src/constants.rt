@@ -1,11 +1,11 @@
 // The constants of each type, as the source's `antinit2` sets them from the twenty parameters.
-use crate::limits::array_type;
-use crate::limits::log_periodic;
 use crate::whole::truncated;
 use logperiodic::geometry::Boom;
 use model::record::Constants;
+use model::types::array_type;
+use model::types::log_periodic;
 ghost use mathlib.Core.Path.{_≡_};
-ghost use Rattle.antenna.specs.TypeConstants.{rlambdaOf, waveConstants, screenOf, arrayConstants, boomConstants, rhombicConstants, crossedConstants, constantsOf};
+ghost use Rattle.antenna.specs.TypeConstants.{rlambdaOf, constantsWith, waveConstants, screenOf, arrayOwn, boomOwn, rhombicOwn, crossedOwn, constantsOf};
 
 const P1: f32 = 3.1415927;
 
@@ -46,7 +46,7 @@ pub(crate) fn wave_constants(p: [f32; 20]) -> Constants
 
 // What types 1 to 4 share.
 fn dipole_constants(p: [f32; 20]) -> Constants
-    ensures { λ r. ⌜ r ≡ arrayConstants 4 p ⌝ }
+    ensures { λ r. ⌜ r ≡ constantsWith p (arrayOwn 4 p) ⌝ }
 {
     let k = wave_constants(p);
     let ifs = truncated(p[9]);
@@ -80,7 +80,7 @@ fn screen(p: [f32; 20]) -> f32
 }
 
 fn array_constants(iant: u32, p: [f32; 20]) -> Constants
-    ensures { λ r. ⌜ r ≡ arrayConstants iant p ⌝ }
+    ensures { λ r. ⌜ r ≡ constantsWith p (arrayOwn iant p) ⌝ }
 {
     let k = dipole_constants(p);
     if iant == 1 {
@@ -97,7 +97,7 @@ fn array_constants(iant: u32, p: [f32; 20]) -> Constants
 }
 
 fn boom_constants(p: [f32; 20], b: Boom) -> Constants
-    ensures { λ r. ⌜ r ≡ boomConstants p b ⌝ }
+    ensures { λ r. ⌜ r ≡ constantsWith p (boomOwn b) ⌝ }
 {
     let k = wave_constants(p);
     Constants {
@@ -108,7 +108,7 @@ fn boom_constants(p: [f32; 20], b: Boom) -> Constants
 }
 
 fn rhombic_constants(p: [f32; 20]) -> Constants
-    ensures { λ r. ⌜ r ≡ rhombicConstants p ⌝ }
+    ensures { λ r. ⌜ r ≡ constantsWith p (rhombicOwn p) ⌝ }
 {
     let k = wave_constants(p);
     let gamma = p[7] * Q1;
@@ -122,7 +122,7 @@ fn rhombic_constants(p: [f32; 20]) -> Constants
 }
 
 fn crossed_constants(p: [f32; 20]) -> Constants
-    ensures { λ r. ⌜ r ≡ crossedConstants p ⌝ }
+    ensures { λ r. ⌜ r ≡ constantsWith p (crossedOwn p) ⌝ }
 {
     let k = wave_constants(p);
     let fr = p[4] / p[5];

@@ -1,10 +1,11 @@
 // `ccirgain`: the gain at a direction, with its kind.
+use crate::asked::Asked;
+use crate::asked::refusal;
 use crate::record::Antenna;
-use model::counts::counts_ok;
-use model::limits::type_ok;
+use numeric::float::is_finite;
 use pattern::gainrel::gainrel;
 ghost use mathlib.Core.Path.{_≡_};
-ghost use Rattle.antenna.specs.Gain.{floored, ratioLevel, decibelsOf, graded, gainOf, gainAnswer};
+ghost use Rattle.antenna.specs.Gain.{floored, ratioLevel, decibelsOf, graded, gainAsked, gainOf, gainAnswer};
 
 // A gain in dBi with its kind, or the number of a refusal.
 pub enum Gain {
@@ -42,11 +43,12 @@ pub(crate) fn decibels(z9: f32, z6: f32, giso: f32) -> f32
     floor(g9 + giso)
 }
 
-fn grade(z6: f32, g: f32) -> Gain
+// The number g with its kind, beside the peak z6.
+pub fn grade(z6: f32, g: f32) -> Gain
     ensures { λ r. ⌜ gainAnswer r ≡ graded z6 g ⌝ }
 {
-    if !numeric::float::is_finite(g) {
-        return Gain::Refused(10);
+    if !is_finite(g) {
+        return Gain::Refused(answers::LEVEL);
     }
     if z6 == 0.0 {
         return Gain::Silence(g);
@@ -57,25 +59,26 @@ fn grade(z6: f32, g: f32) -> Gain
     Gain::Level(g)
 }
 
+// What a gain asks: its elevation is any, and it needs no space.
+fn gain_asked(u: f32, v: f32, giso: f32) -> Asked
+    ensures { λ r. ⌜ r ≡ gainAsked u v giso ⌝ }
+{
+    let values = is_finite(u) & is_finite(v) & is_finite(giso);
+    Asked {
+        values,
+        aim: true,
+        space: true,
+    }
+}
+
 // `ccirgain`: the gain at elevation u and azimuth v, with the maximum gain giso.
 pub fn ccirgain(ant: Antenna, table: &[f32], u: f32, v: f32, giso: f32) -> Gain
     ensures { λ r. ⌜ gainAnswer r ≡ gainOf ant (now (table .entry)) u v giso ⌝ }
 {
-    let finite = numeric::float::is_finite(u)
-        & numeric::float::is_finite(v)
-        & numeric::float::is_finite(giso);
-    if !finite {
-        return Gain::Refused(2);
-    }
     let m = ant.model;
-    if !type_ok(m.iant) {
-        return Gain::Refused(3);
-    }
-    if !counts_ok(m) {
-        return Gain::Refused(6);
-    }
-    if table.len() < 11284 {
-        return Gain::Refused(8);
+    let number = refusal(m, table.len(), gain_asked(u, v, giso));
+    if 0 < number {
+        return Gain::Refused(number);
     }
     let z6 = ant.peak.z6;
     let z9 = gainrel(m, table, u, v);

@@ -1,11 +1,21 @@
-// The antenna of twenty parameters: the search for its pattern's maximum, set-up, the gain at a
-// direction, and the plate row.
-pub mod constants;
-pub mod copy;
+// The antenna of twenty parameters: document 01, parts 6, 7 and 9. Each call takes any arguments,
+// and its answer is its definition's, refusals and lent floats included:
+//
+// - `setup::antinit2`, set-up with the search for the pattern's maximum: `setUpOf`, and `lentAfter`
+//   for the lent table (specs/SetUp.antt);
+// - `gain::ccirgain`, the gain at a direction: `gainOf` (specs/Gain.antt);
+// - `row::row`, the gains around one elevation: `rowOf`, and `rowAfter` for the lent row
+//   (specs/Row.antt).
+//
+// What set-up accepts, and that an accepted number is finite, is proved in proofs/Outcomes.antt; that
+// a row's numbers are the gain's, with its kinds, in proofs/RowGains.antt.
+mod asked;
+mod constants;
+mod copy;
 pub mod gain;
-pub mod limits;
+mod limits;
 pub mod record;
 pub mod row;
-pub mod search;
+mod search;
 pub mod setup;
-pub mod whole;
+mod whole;

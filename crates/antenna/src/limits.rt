@@ -1,39 +1,34 @@
-// The limits of set-up's parameters: document 01's refusals 2, 3, 5, 6, 7 and 8.
+// The limits of set-up's parameters, and the refusals that need no search.
 use crate::record::Peak;
+use floats::range::all_finite;
+use floats::range::is_between;
 use model::counts::count_ok;
 use model::limits::in_band;
-use model::limits::type_ok;
-use model::range::all_finite;
-use model::range::is_between;
+use model::table::SIZE;
+use model::types::array_type;
+use model::types::log_periodic;
+use model::types::type_ok;
 ghost use mathlib.Core.Path.{_≡_};
-ghost use Rattle.ground.specs.Table.{logPeriodic};
-ghost use Rattle.antenna.specs.Limits.{arrayType, bandOk, slotsOk, startOf, startOk, aimOk, refusalOf};
+ghost use Rattle.antenna.specs.Limits.{designOk, bandOk, slotsOk, startOf, startOk, slewOk, aimOk, refusalOf};
 
-// Types 1 to 4.
-pub(crate) fn array_type(iant: u32) -> bool
-    ensures { λ r. ⌜ r ≡ arrayType iant ⌝ }
+// Design MHz, where the type has one.
+fn design_ok(iant: u32, p: [f32; 20]) -> bool
+    ensures { λ r. ⌜ r ≡ designOk iant p ⌝ }
 {
-    iant <= 4
-}
-
-pub(crate) fn log_periodic(iant: u32) -> bool
-    ensures { λ r. ⌜ r ≡ logPeriodic iant ⌝ }
-{
-    (iant == 5) | (iant == 6)
+    if array_type(iant) {
+        return in_band(p[7]);
+    }
+    if 8 <= iant {
+        return in_band(p[5]);
+    }
+    true
 }
 
 // Operating and design MHz.
 fn band_ok(iant: u32, p: [f32; 20]) -> bool
     ensures { λ r. ⌜ r ≡ bandOk iant p ⌝ }
 {
-    let operating = in_band(p[4]);
-    if array_type(iant) {
-        return operating & in_band(p[7]);
-    }
-    if 8 <= iant {
-        return operating & in_band(p[5]);
-    }
-    operating & true
+    in_band(p[4]) & design_ok(iant, p)
 }
 
 // Dipoles, or log-periodic elements.
@@ -88,15 +83,20 @@ fn start_ok(s: Peak) -> bool
     is_between(s.umax, 0.0, 90.0) & is_between(s.vmax, 0.0, 360.0)
 }
 
+fn slew_ok(iant: u32, p: [f32; 20]) -> bool
+    ensures { λ r. ⌜ r ≡ slewOk iant p ⌝ }
+{
+    if array_type(iant) {
+        return is_between(p[9], -90.0, 90.0);
+    }
+    true
+}
+
 // Start direction and slew.
 fn aim_ok(iant: u32, p: [f32; 20]) -> bool
     ensures { λ r. ⌜ r ≡ aimOk iant p ⌝ }
 {
-    let start = start_ok(start_of(iant, p));
-    if array_type(iant) {
-        return start & is_between(p[9], -90.0, 90.0);
-    }
-    start & true
+    start_ok(start_of(iant, p)) & slew_ok(iant, p)
 }
 
 // The number of the first refusal that needs no search, with n floats lent for the table; 0 where
@@ -105,22 +105,22 @@ pub(crate) fn refusal(iant: u32, p: [f32; 20], n: usize) -> u8
     ensures { λ r. ⌜ r ≡ refusalOf iant p n ⌝ }
 {
     if !all_finite(&p) {
-        return 2;
+        return answers::VALUE;
     }
     if !type_ok(iant) {
-        return 3;
+        return answers::TYPE;
     }
     if !band_ok(iant, p) {
-        return 5;
+        return answers::BAND;
     }
     if !slots_ok(iant, p) {
-        return 6;
+        return answers::COUNT;
     }
     if !aim_ok(iant, p) {
-        return 7;
+        return answers::AIM;
     }
-    if n < 11284 {
-        return 8;
+    if n < SIZE {
+        return answers::SPACE;
     }
     0
 }

@@ -3,11 +3,12 @@ use model::record::Model;
 
 // `gainorm`'s outputs: the pattern's maximum and where it is.
 pub struct Peak {
-    pub z6: f32,
-    pub umax: f32,
-    pub vmax: f32,
+    pub z6: f32, // the largest relative gain; 0 is a silent antenna
+    pub umax: f32, // its elevation
+    pub vmax: f32, // its azimuth
 }
 
+// What set-up leaves beside the lent table: all that gain and row read.
 pub struct Antenna {
     pub model: Model,
     pub peak: Peak,

@@ -1,13 +1,14 @@
 // The plate row: the numbers of `ccirgain` around one elevation, with front-to-back.
+use crate::asked::Asked;
+use crate::asked::refusal;
 use crate::copy::lay_over;
 use crate::gain::decibels;
 use crate::record::Antenna;
 use crate::whole::truncated;
-use model::counts::counts_ok;
-use model::limits::type_ok;
-use model::range::all_finite;
-use model::range::is_between;
+use floats::range::all_finite;
+use floats::range::is_between;
 use model::record::Model;
+use numeric::float::is_finite;
 use pattern::gainrel::gainrel;
 ghost use mathlib.Core.Path.{_≡_};
 ghost use Prim.Native.Nat.{_≤_};
@@ -15,7 +16,7 @@ ghost use mathlib.Core.Bool.{true};
 ghost use lib.ListN.{length};
 ghost use Rattle.model.specs.Counts.{countsOk};
 ghost use Rattle.model.specs.Table.{tableSize};
-ghost use Rattle.antenna.specs.Row.{elevationOk, rowTo, frontToBack, rowRefusal, rowOf, rowAnswer, rowAfter};
+ghost use Rattle.antenna.specs.Row.{elevationOk, rowTo, frontToBack, rowAsked, rowOf, rowAnswer, rowAfter};
 
 // The entry at azimuth 0 less that at 180, or the number of a refusal.
 pub enum PlateRow {
@@ -31,28 +32,16 @@ fn elevation_ok(u: f32) -> bool
     is_between(u, 0.0, 90.0) & (u == whole)
 }
 
-// The first refusal that needs no number, with a table of size floats and n floats lent for the
-// row; 0 where there is none.
-fn row_refusal(m: Model, size: usize, u: f32, giso: f32, n: usize) -> u8
-    ensures { λ r. ⌜ r ≡ rowRefusal m size u giso n ⌝ }
+// What a row asks, with n floats lent for it.
+fn row_asked(u: f32, giso: f32, n: usize) -> Asked
+    ensures { λ r. ⌜ r ≡ rowAsked u giso n ⌝ }
 {
-    let finite = numeric::float::is_finite(u) & numeric::float::is_finite(giso);
-    if !finite {
-        return 2;
+    let values = is_finite(u) & is_finite(giso);
+    Asked {
+        values,
+        aim: elevation_ok(u),
+        space: n == 360,
     }
-    if !type_ok(m.iant) {
-        return 3;
-    }
-    if !counts_ok(m) {
-        return 6;
-    }
-    if !elevation_ok(u) {
-        return 7;
-    }
-    if (size < 11284) | (n != 360) {
-        return 8;
-    }
-    0
 }
 
 // The numbers at azimuths 0 to 359.
@@ -82,15 +71,15 @@ pub fn row(ant: Antenna, table: &[f32], u: f32, giso: f32, lent: &mut [f32]) -> 
     ensures { λ _. ⌜ now (lent .exit) ≡ rowAfter ant (now (table .entry)) u giso (now (lent .entry)) ⌝ }
 {
     let m = ant.model;
-    let number = row_refusal(m, table.len(), u, giso, lent.len());
+    let number = refusal(m, table.len(), row_asked(u, giso, lent.len()));
     if 0 < number {
         return PlateRow::Refused(number);
     }
     let all = numbers(m, ant.peak.z6, table, u, giso);
     let ratio = front_to_back(all);
-    let exist = all_finite(&all) & numeric::float::is_finite(ratio);
+    let exist = all_finite(&all) & is_finite(ratio);
     if !exist {
-        return PlateRow::Refused(10);
+        return PlateRow::Refused(answers::LEVEL);
     }
     lay_over(&all, lent);
     PlateRow::FrontToBack(ratio)

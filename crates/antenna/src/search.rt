@@ -306,7 +306,7 @@ fn last_pass(m: Model, table: &[f32], e: Scan, v: f32) -> Search
 }
 
 // `gainorm`: the pattern's maximum, from the start values of umax and vmax.
-pub fn gainorm(m: Model, table: &[f32], start: Peak) -> Search
+pub(crate) fn gainorm(m: Model, table: &[f32], start: Peak) -> Search
     requires { ⌜ (countsOk m ≡ true) × (tableSize ≤ length (now table)) ⌝ }
     ensures { λ r. ⌜ r ≡ gainormOf m (now (table .entry)) start ⌝ }
 {

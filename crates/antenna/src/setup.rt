@@ -3,8 +3,6 @@ use crate::constants::constants_of;
 use crate::constants::wave_constants;
 use crate::constants::wavelength;
 use crate::copy::lay_over;
-use crate::limits::array_type;
-use crate::limits::log_periodic;
 use crate::limits::refusal;
 use crate::limits::start_of;
 use crate::record::Antenna;
@@ -19,17 +17,19 @@ use logperiodic::geometry::Boom;
 use logperiodic::geometry::Design;
 use logperiodic::logparm::LogPeriodic;
 use logperiodic::logparm::logparm;
-use model::angle::jant;
 use model::record::Elements;
 use model::record::Ground;
 use model::record::Model;
 use model::record::Trig;
+use model::types::array_type;
+use model::types::jant;
+use model::types::log_periodic;
 ghost use mathlib.Core.Path.{_≡_};
 ghost use mathlib.Core.Bool.{true};
 ghost use lib.ListN.{length};
 ghost use Rattle.model.specs.Counts.{countsOk};
 ghost use Rattle.logperiodic.specs.Active.{Listed};
-ghost use Rattle.model.specs.Answers.{refused};
+ghost use Rattle.answers.specs.Outcome.{refused};
 ghost use Rattle.antenna.specs.Limits.{slotsOk};
 ghost use Rattle.antenna.specs.SetUp.{designOf, noElements, elementsOf, slewedOf, modelOf, searchRefused, acceptedOf, setUpOf, setUpAnswer, lentAfter};
 
@@ -199,7 +199,7 @@ pub fn antinit2(parm: [f32; 20], lent: &mut [f32]) -> SetUp
     let table = table_of(model);
     let found = gainorm(model, &table, start_of(iant, parm));
     if search_refused(found) {
-        return refuse(9);
+        return refuse(answers::PATTERN);
     }
     lay_over(&table, lent);
     accept(model, found)

@@ -1,7 +1,5 @@
--- What the proofs share, and the laws that crates above cite.
-mod Signed
-mod Counted
-mod InSteps
-pub mod Mirror
+-- The laws that crates above cite, and what the proofs of several modules share; what one module's share stands in its folder.
 pub mod Unslewed
 pub mod Edges
+mod Mirror
+mod InSteps

@@ -7,9 +7,9 @@ use lib.Ieee.{Float, nan, inf, fin, binary32, neg, lt, ofBits}
 use Rattle.numeric.specs.Float.{mag, copySign}
 use Rattle.numeric.specs.Sine.{sine, cosine}
 use Rattle.numeric.proofs.Laws.{sine-odd, sine-zero, cosine-even, neg-neg, mag-neg}
-use Rattle.model.specs.Ops.{_⊖_, +0-is}
-use Rattle.model.specs.Opposite.{Opposite, negated, zeros}
-use Rattle.model.proofs.Opposites.{with-neg, add-opposite, sub-opposite, mul-opposite-right, square-same, even-same, odd-opposite}
+use Rattle.floats.specs.Ops.{_⊖_, +0-is}
+use Rattle.floats.specs.Opposite.{Opposite, negated, zeros}
+use Rattle.floats.proofs.Opposites.{with-neg, add-opposite, sub-opposite, mul-opposite-right, square-same, even-same, odd-opposite}
 use Rattle.curtain.specs.Literals.{PI}
 use Rattle.curtain.specs.Azimuth.{iaz, folded}
 use Rattle.curtain.specs.Pattern.{efOf, arg, bayCosines, baySines, bayPower, stackPower, f2, stackSines}

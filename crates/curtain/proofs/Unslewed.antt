@@ -8,16 +8,16 @@ use lib.IntN.{ℤ, pos, negsuc, natAbs}
 use lib.ListN.{getD, set, replicate}
 use lib.Ieee.{Float, nan, inf, fin, binary32, neg, ofBits, ofInt}
 use lib.Ieee.Scale.{finite}
-use Rattle.model.specs.Ops.{_⊗_, +0, +0-is}
-use Rattle.model.specs.Opposite.{Opposite, negated, zeros}
-use Rattle.model.proofs.Negation.{mul-neg-left}
-use Rattle.model.proofs.Opposites.{mul-opposite-right}
+use Rattle.floats.specs.Ops.{_⊗_, +0, +0-is}
+use Rattle.floats.specs.Opposite.{Opposite, negated, zeros}
+use Rattle.floats.proofs.Negation.{mul-neg-left}
+use Rattle.floats.proofs.Opposites.{mul-opposite-right}
 use Rattle.curtain.specs.Literals.{D2R}
 use Rattle.curtain.specs.Excitation.{phaseAt, slewStep, signed, bayphs}
-use Rattle.model.specs.Filled.{filledTo}
+use Rattle.floats.specs.Filled.{filledTo}
 use Rattle.curtain.specs.Pattrn0.{islewOf, nbsOf, odratOf, bayPhases, curtainOf}
 use Rattle.curtain.specs.Level.{levelOf}
-use Rattle.curtain.specs.Answers.{valueRefused, curtainGain}
+use Rattle.curtain.specs.Answers.{refusalOf, curtainGain}
 use Rattle.curtain.proofs.Mirror.{Unphased, f2-mirror, iaz-neg, folded-neg}
 
 -- ---- the slew step is 0 just when the rounded slew is -3 to 3
@@ -97,11 +97,11 @@ module _ (parm : List Float) (h : natAbs (islewOf parm) ≤ 3) (azimd elevd gnor
   level-mirror =
       rw (mul-neg-left, iaz-neg, ← f2-mirror (curtainOf parm) (unphased parm h) (elevd ⊗ D2R) (folded-neg (azimd ⊗ D2R)))
 
-  value-mirror : valueRefused parm (neg azimd) elevd gnorm ≡ valueRefused parm azimd elevd gnorm
-  unfolding valueRefused
-  value-mirror = rw finite-neg
+  refusal-mirror : refusalOf parm (neg azimd) elevd gnorm ≡ refusalOf parm azimd elevd gnorm
+  unfolding refusalOf
+  refusal-mirror = rw finite-neg
 
   -- refusals and levels alike, whatever the other slots, the factor and the elevation
   pub curtain-mirror : curtainGain parm azimd elevd gnorm ≡ curtainGain parm (neg azimd) elevd gnorm
   unfolding curtainGain
-  curtain-mirror = rw (value-mirror, level-mirror)
+  curtain-mirror = rw (refusal-mirror, level-mirror)

@@ -2,8 +2,8 @@
 use mathlib.Core.Bool.{Bool, _&&_, cond}
 use lib.Ieee.{Float, lt}
 use Rattle.numeric.specs.Float.{mag, copySign}
-use Rattle.model.specs.Ops.{_⊖_, _⊗_}
-use Rattle.model.specs.Literals.{three}
+use Rattle.floats.specs.Ops.{_⊖_, _⊗_}
+use Rattle.floats.specs.Literals.{three}
 use Rattle.curtain.specs.Literals.{PI, PIO2}
 
 -- `iaz`: the azimuth lies behind

@@ -3,16 +3,16 @@ use Prim.Native.Nat.{ℕ, _-_, _/_, min}
 use mathlib.Core.List.{List, [], _∷_}
 use lib.IntN.{ℤ, pos, negsuc, negℤ, natAbs}
 use lib.ListN.{getD}
-use lib.Ieee.{Float, nan, binary32, ofInt}
-use Rattle.model.specs.Ops.{+0}
-use Rattle.model.specs.Literals.{literal, one}
+use lib.Ieee.{Float, nan, binary32, neg, ofInt}
+use Rattle.floats.specs.Ops.{+0}
+use Rattle.floats.specs.Literals.{one}
 
 -- a sign of `IVMA`, as the number that it stands for
 abbrev p : Float
 p = one
 
 abbrev m : Float
-m = literal 0xbf800000
+m = neg one
 
 abbrev o : Float
 o = +0

@@ -4,8 +4,8 @@ use mathlib.Core.Bool.{Bool, _||_, cond}
 use lib.Dec.{eqb}
 use lib.Ieee.{Float, neg}
 use Rattle.numeric.specs.Sine.{cosine}
-use Rattle.model.specs.Ops.{_⊕_, _⊗_, _⊘_, +0}
-use Rattle.model.specs.Literals.{two, ninety}
+use Rattle.floats.specs.Ops.{_⊕_, _⊗_, _⊘_, +0}
+use Rattle.floats.specs.Literals.{two, ninety}
 use Rattle.curtain.specs.Literals.{D2R}
 use Rattle.curtain.specs.Pattern.{f2}
 use Rattle.curtain.specs.declared.pattern.Curtain.{Curtain}

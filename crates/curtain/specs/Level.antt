@@ -4,9 +4,9 @@ use mathlib.Core.List.{List}
 use lib.Ieee.{Float, neg, eq, ne}
 use Rattle.numeric.specs.Float.{mag}
 use Rattle.numeric.specs.Logarithm.{log10Of}
-use Rattle.model.specs.Ops.{_⊖_, _⊗_, _⊘_, +0}
-use Rattle.model.specs.Literals.{literal, four, ten, twenty}
-use Rattle.curtain.specs.Literals.{PI, D2R}
+use Rattle.floats.specs.Ops.{_⊖_, _⊗_, _⊘_, +0}
+use Rattle.floats.specs.Literals.{four, ten, twenty, n1000}
+use Rattle.curtain.specs.Literals.{PI, D2R, n99999}
 use Rattle.curtain.specs.Pattrn0.{curtainOf}
 use Rattle.curtain.specs.Azimuth.{iaz, folded}
 use Rattle.curtain.specs.Pattern.{f2}
@@ -15,11 +15,11 @@ use Rattle.curtain.specs.declared.pattern.Curtain.{Curtain}
 
 -- `factor`: -99999 asks for the integral
 unfoldable pub factorOf : Curtain → Float → Float
-factorOf ant gnorm = cond (eq gnorm (neg (literal 0x47c34f80))) (four ⊗ PI ⊘ integral ant) gnorm
+factorOf ant gnorm = cond (eq gnorm (neg n99999)) (four ⊗ PI ⊘ integral ant) gnorm
 
 -- `xgn` at first: the pattern times the factor, in decibels
 unfoldable pub decibels : Float → Float → Float
-decibels xgain factor = cond (ne xgain +0) (ten ⊗ log10Of (mag (xgain ⊗ factor))) (neg (literal 0x447a0000))
+decibels xgain factor = cond (ne xgain +0) (ten ⊗ log10Of (mag (xgain ⊗ factor))) (neg n1000)
 
 -- `gain`: backward radiation is 20 less
 unfoldable pub levelOf : List Float → Float → Float → Float → Float

@@ -1,4 +1,4 @@
--- The definitions that contracts cite: one file for each subject.
+-- The definitions that contracts cite, one file for each subject: document 01's and the source's.
 pub mod Literals
 pub mod Excitation
 pub mod Pattrn0
@@ -7,3 +7,5 @@ pub mod Pattern
 pub mod Integral
 pub mod Level
 pub mod Answers
+-- the code's steps, proved equal
+pub mod PatternSteps

@@ -1,14 +1,17 @@
 -- The source's `f2`: the curtain's power pattern at one direction. Definitions only.
-use Prim.Native.Nat.{ℕ, zero, suc}
+use Prim.Native.Nat.{ℕ, zero, suc, _≤_}
 use mathlib.Core.Bool.{cond}
 use lib.ListN.{getD}
 use lib.Ieee.{Float, nan, le}
 use Rattle.numeric.specs.Sine.{sine, cosine}
-use Rattle.model.specs.Ops.{_⊕_, _⊖_, _⊗_, _⊘_, +0}
-use Rattle.model.specs.Literals.{one}
+use Rattle.floats.specs.Ops.{_⊕_, _⊖_, _⊗_, _⊘_, +0}
+use Rattle.floats.specs.Literals.{one}
 use Rattle.curtain.specs.Literals.{tiny}
 use Rattle.curtain.specs.declared.pattern.Curtain.{Curtain}
-use Rattle.curtain.specs.declared.pattern.Elevation.{Elevation}
+
+-- a curtain whose counts its tables hold
+abbrev pub Counted : Curtain → Type 0
+Counted ant = (ant .nbs ≤ 14) × (ant .nostak ≤ 8)
 
 -- ef, one dipole: spsi2 is 1.0e-12 at the least
 unfoldable pub efOf : Float → Float → Float → Float
@@ -61,18 +64,3 @@ f2 ant theta phi =
     let fx = sine (ant .xr ⊗ ctheta ⊗ cphi) in
     let fz = stackSines ant stheta (ant .nostak) in
     ef ⊗ ef ⊗ fx ⊗ fx ⊗ bayPower ant cpsi ⊗ stackPower fz stheta sphi cphi
-
--- ---- `f2` once more, in two steps: what it takes from the elevation alone, and the rest
-
-unfoldable pub elevationOf : Curtain → Float → Elevation
-elevationOf ant theta =
-    record { ctheta = cosine theta; stheta = sine theta; fz = stackSines ant (sine theta) (ant .nostak) }
-
-unfoldable pub f2At : Curtain → Elevation → Float → Float
-f2At ant e phi =
-    let cphi = cosine phi in
-    let sphi = sine phi in
-    let cpsi = e .ctheta ⊗ sphi in
-    let ef = efOf (ant .eil) (ant .ceil) cpsi in
-    let fx = sine (ant .xr ⊗ e .ctheta ⊗ cphi) in
-    ef ⊗ ef ⊗ fx ⊗ fx ⊗ bayPower ant cpsi ⊗ stackPower (e .fz) (e .stheta) sphi cphi

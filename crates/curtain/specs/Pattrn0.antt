@@ -6,11 +6,11 @@ use lib.IntN.{ℤ, natAbs}
 use lib.ListN.{set}
 use lib.Ieee.{Float, neg, lt}
 use Rattle.numeric.specs.Sine.{cosine}
-use Rattle.model.specs.Ops.{_⊕_, _⊗_, _⊘_, count, +0}
-use Rattle.model.specs.Literals.{one, two}
-use Rattle.model.specs.Angle.{nintOf, natural}
+use Rattle.floats.specs.Ops.{_⊕_, _⊗_, _⊘_, count, +0}
+use Rattle.floats.specs.Literals.{one, two}
+use Rattle.floats.specs.Rounding.{nintOf, natural}
 use Rattle.model.specs.Limits.{slot}
-use Rattle.model.specs.Filled.{filledTo}
+use Rattle.floats.specs.Filled.{filledTo}
 use Rattle.curtain.specs.Literals.{VOFL, PI2, D2R}
 use Rattle.curtain.specs.Excitation.{stkrat, bayphs}
 use Rattle.curtain.specs.declared.pattern.Curtain.{Curtain}

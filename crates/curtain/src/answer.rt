@@ -8,11 +8,11 @@ pub enum Gain {
 }
 
 // A level, or 10 where the number isn't finite.
-pub fn graded(xgn: f32) -> Gain
+pub(crate) fn graded(xgn: f32) -> Gain
     ensures { λ r. ⌜ Answers.answerOf r ≡ Answers.graded xgn ⌝ }
 {
     if numeric::float::is_finite(xgn) {
         return Gain::Level(xgn);
     }
-    Gain::Refused(10)
+    Gain::Refused(answers::LEVEL)
 }

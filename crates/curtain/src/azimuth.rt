@@ -1,20 +1,18 @@
 // The azimuth, taken from behind the curtain to the front.
+use crate::constants::PI;
+use crate::constants::PIO2;
 ghost use mathlib.Core.Path.{_≡_};
 ghost use Rattle.curtain.specs.Azimuth as Azimuth;
 
-const PI: f32 = 3.1415926;
-
-const PIO2: f32 = 1.570796326;
-
 // The source's `iaz`: whether an azimuth in radians lies behind.
-pub fn behind(azim: f32) -> bool
+pub(crate) fn behind(azim: f32) -> bool
     ensures { λ r. ⌜ r ≡ Azimuth.iaz azim ⌝ }
 {
     let size = numeric::float::abs(azim);
     size > PIO2 && size < 3.0 * PIO2
 }
 
-pub fn fold(azim: f32) -> f32
+pub(crate) fn fold(azim: f32) -> f32
     ensures { λ r. ⌜ r ≡ Azimuth.folded azim ⌝ }
 {
     if behind(azim) {

@@ -1,15 +1,15 @@
 // The whole numbers among the parameters: stacks, bays, mode.
 use crate::excitation::unsigned_abs;
-use model::angle::jant;
-use model::angle::nint;
+use floats::rounding::nint;
+use model::types::jant;
 ghost use mathlib.Core.Path.{_≡_};
 ghost use Prim.Native.Nat.{_≤_, min};
 ghost use lib.IntN.{natAbs};
-ghost use Rattle.model.specs.Angle.{nintOf};
+ghost use Rattle.floats.specs.Rounding.{nintOf};
 ghost use Rattle.curtain.specs.Pattrn0 as Pattrn0;
 
 // v rounded and brought into low .. high; `jant` rounds, and takes what is below 0 to 0.
-pub fn clamp(v: f32, low: usize, high: usize) -> usize
+pub(crate) fn clamp(v: f32, low: usize, high: usize) -> usize
     requires { ⌜ low ≤ high ⌝ }
     ensures { λ r. ⌜ r ≡ Pattrn0.clamped low high (nintOf v) ⌝ }
 {
@@ -24,7 +24,7 @@ pub fn clamp(v: f32, low: usize, high: usize) -> usize
 }
 
 // How many bays v stands for: the size of the rounded number, at most 14.
-pub fn bays(v: f32) -> usize
+pub(crate) fn bays(v: f32) -> usize
     ensures { λ r. ⌜ r ≡ min (natAbs (nintOf v)) 14 ⌝ }
 {
     let size = unsigned_abs(nint(v));

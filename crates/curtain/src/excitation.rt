@@ -24,7 +24,7 @@ const IVMA: [[f32; 4]; 15] = [
 ];
 
 // `stkrat`, of stack i.
-pub fn stack_ratio(mode: usize, i: usize) -> f32
+pub(crate) fn stack_ratio(mode: usize, i: usize) -> f32
     requires { ⌜ (1 ≤ mode) × (mode ≤ 15) × (i < 8) ⌝ }
     ensures { λ r. ⌜ r ≡ Excitation.stkrat mode i ⌝ }
 {
@@ -104,14 +104,14 @@ const IPHASE: [[u16; 14]; 8] = [
 ];
 
 // The source's `unsigned_abs`: the size of k, which i32::MIN has too.
-pub fn unsigned_abs(k: i32) -> u32
+pub(crate) fn unsigned_abs(k: i32) -> u32
     ensures { λ r. ⌜ r ≡ natAbs k ⌝ }
 {
     if k < 0 { -(k as i64) as u32 } else { k as u32 }
 }
 
 // The slew step, `kslew` - 1: one for each 4 degrees, at most 7.
-pub fn slew_step(islew: i32) -> usize
+pub(crate) fn slew_step(islew: i32) -> usize
     ensures { λ r. ⌜ r ≡ Excitation.slewStep islew ⌝ }
     ensures { λ r. ⌜ r ≤ 7 ⌝ }
 {
@@ -131,7 +131,7 @@ fn phase_at(step: usize, i: usize) -> u16
 }
 
 // `bayphs`, of bay i: positive for a slew below 0.
-pub fn bay_phase(islew: i32, i: usize) -> f32
+pub(crate) fn bay_phase(islew: i32, i: usize) -> f32
     requires { ⌜ i < 14 ⌝ }
     ensures { λ r. ⌜ r ≡ Excitation.bayphs islew i ⌝ }
 {

@@ -1,18 +1,16 @@
 // The pattern integrated over the forward hemisphere: the source's `dbltrap`.
+use crate::constants::D2R;
 use crate::pattern::Curtain;
 use crate::pattern::elevation_at;
 use crate::pattern::f2;
 use crate::pattern::f2_at;
 ghost use mathlib.Core.Path.{_≡_};
-ghost use Prim.Native.Nat.{_≤_};
 ghost use Rattle.curtain.specs.Integral as Integral;
-
-// Degrees to radians.
-pub const D2R: f32 = 0.01745329251;
+ghost use Rattle.curtain.specs.Pattern as Pattern;
 
 // The readings between the ends of a sweep of the azimuth at the elevation t.
 fn readings(ant: Curtain, t: f32) -> f32
-    requires { ⌜ (ant .nbs ≤ 14) × (ant .nostak ≤ 8) ⌝ }
+    requires { ⌜ Pattern.Counted ant ⌝ }
     ensures { λ r. ⌜ r ≡ Integral.readings ant t 179 ⌝ }
 {
     let e = elevation_at(ant, t);
@@ -27,7 +25,7 @@ fn readings(ant: Curtain, t: f32) -> f32
 
 // A sweep of the azimuth: the readings, and half of each end.
 fn sweep(ant: Curtain, t: f32) -> f32
-    requires { ⌜ (ant .nbs ≤ 14) × (ant .nostak ≤ 8) ⌝ }
+    requires { ⌜ Pattern.Counted ant ⌝ }
     ensures { λ r. ⌜ r ≡ Integral.pint ant t ⌝ }
 {
     let ends = f2(ant, t, 90.0 * D2R) + f2(ant, t, -90.0 * D2R);
@@ -36,7 +34,7 @@ fn sweep(ant: Curtain, t: f32) -> f32
 
 // What the elevation t adds: half of it at the two ends.
 fn strip(ant: Curtain, t: f32, end: bool) -> f32
-    requires { ⌜ (ant .nbs ≤ 14) × (ant .nostak ≤ 8) ⌝ }
+    requires { ⌜ Pattern.Counted ant ⌝ }
     ensures { λ r. ⌜ r ≡ Integral.strip ant t end ⌝ }
 {
     let pint = sweep(ant, t);
@@ -45,8 +43,8 @@ fn strip(ant: Curtain, t: f32, end: bool) -> f32
 }
 
 // Trapezoids over 91 elevations.
-pub fn dbltrap(ant: Curtain) -> f32
-    requires { ⌜ (ant .nbs ≤ 14) × (ant .nostak ≤ 8) ⌝ }
+pub(crate) fn dbltrap(ant: Curtain) -> f32
+    requires { ⌜ Pattern.Counted ant ⌝ }
     ensures { λ r. ⌜ r ≡ Integral.integral ant ⌝ }
 {
     let mut tint: f32 = 0.0;

@@ -1,20 +1,19 @@
 // The curtain's level in decibels: the end of the source's `gain`.
 use crate::azimuth::behind;
 use crate::azimuth::fold;
-use crate::integral::D2R;
+use crate::constants::D2R;
+use crate::constants::PI;
 use crate::integral::dbltrap;
 use crate::pattern::Curtain;
 use crate::pattern::f2;
 use crate::pattrn0::curtain_of;
 ghost use mathlib.Core.Path.{_≡_};
-ghost use Prim.Native.Nat.{_≤_};
 ghost use Rattle.curtain.specs.Level as Level;
-
-const PI: f32 = 3.1415926;
+ghost use Rattle.curtain.specs.Pattern as Pattern;
 
 // The normalising factor: -99999 asks for the integral.
 fn factor_of(ant: Curtain, gnorm: f32) -> f32
-    requires { ⌜ (ant .nbs ≤ 14) × (ant .nostak ≤ 8) ⌝ }
+    requires { ⌜ Pattern.Counted ant ⌝ }
     ensures { λ r. ⌜ r ≡ Level.factorOf ant gnorm ⌝ }
 {
     if gnorm == -99999.0 {
@@ -34,7 +33,7 @@ fn decibels(xgain: f32, factor: f32) -> f32
 }
 
 // The level at a direction in degrees; backward radiation is 20 less.
-pub fn level_of(parm: [f32; 20], azimd: f32, elevd: f32, gnorm: f32) -> f32
+pub(crate) fn level_of(parm: [f32; 20], azimd: f32, elevd: f32, gnorm: f32) -> f32
     ensures { λ r. ⌜ r ≡ Level.levelOf parm azimd elevd gnorm ⌝ }
 {
     let ant = curtain_of(parm);

@@ -1,13 +1,18 @@
-// The curtain antenna: the source's module `curtain`, from the twenty parameters to the answer.
+// The NTIA curtain, the source's module `curtain`. `gain` answers any twenty parameters, direction
+// and factor: with the source's level, or with the lowest number that document 01 refuses them for
+// (specs/Answers.antt, `curtainGain`). A curtain whose rounded slew is -3 to 3, which is where its
+// slew step is 0 (`step-zero`), answers alike at an azimuth and at its negative (`curtain-mirror`;
+// both in proofs/Unslewed.antt).
 pub mod answer;
-pub mod azimuth;
-pub mod counts;
-pub mod excitation;
-pub mod integral;
-pub mod level;
-pub mod pattern;
-pub mod pattrn0;
-pub mod refusal;
+mod azimuth;
+mod constants;
+mod counts;
+mod excitation;
+mod integral;
+mod level;
+mod pattern;
+mod pattrn0;
+mod refusal;
 
 use crate::answer::Gain;
 ghost use mathlib.Core.Path.{_≡_};
@@ -18,14 +23,9 @@ ghost use Rattle.curtain.specs.Answers as Answers;
 pub fn gain(parm: [f32; 20], azimd: f32, elevd: f32, gnorm: f32) -> Gain
     ensures { λ r. ⌜ Answers.answerOf r ≡ Answers.curtainGain parm azimd elevd gnorm ⌝ }
 {
-    if refusal::value_refused(parm, azimd, elevd, gnorm) {
-        return Gain::Refused(2);
-    }
-    if refusal::band_refused(parm) {
-        return Gain::Refused(5);
-    }
-    if refusal::aim_refused(parm) {
-        return Gain::Refused(7);
+    let number = refusal::refusal(parm, azimd, elevd, gnorm);
+    if 0 < number {
+        return Gain::Refused(number);
     }
     answer::graded(level::level_of(parm, azimd, elevd, gnorm))
 }

@@ -2,9 +2,10 @@
 ghost use mathlib.Core.Path.{_≡_};
 ghost use Prim.Native.Nat.{_≤_};
 ghost use Rattle.curtain.specs.Pattern as Pattern;
+ghost use Rattle.curtain.specs.PatternSteps as Steps;
 
 // `/ANTDAT/` and `/FWAVE/`: what the pattern is computed from.
-pub struct Curtain {
+pub(crate) struct Curtain {
     pub nostak: usize,
     pub eil: f32,
     pub ceil: f32,
@@ -74,15 +75,15 @@ fn stack_power(fz: f32, stheta: f32, sphi: f32, cphi: f32) -> f32
 
 // What the pattern takes from the elevation alone: its cosine and sine, and the sum over the stacks.
 // The integral has it once for each sweep of the azimuth.
-pub struct Elevation {
+pub(crate) struct Elevation {
     pub ctheta: f32,
     pub stheta: f32,
     pub fz: f32,
 }
 
-pub fn elevation_at(ant: Curtain, theta: f32) -> Elevation
+pub(crate) fn elevation_at(ant: Curtain, theta: f32) -> Elevation
     requires { ⌜ ant .nostak ≤ 8 ⌝ }
-    ensures { λ r. ⌜ r ≡ Pattern.elevationOf ant theta ⌝ }
+    ensures { λ r. ⌜ r ≡ Steps.elevationOf ant theta ⌝ }
 {
     let ctheta = numeric::sine::cos(theta);
     let stheta = numeric::sine::sin(theta);
@@ -91,9 +92,9 @@ pub fn elevation_at(ant: Curtain, theta: f32) -> Elevation
 }
 
 // The pattern at an elevation and an azimuth in radians.
-pub fn f2_at(ant: Curtain, e: Elevation, phi: f32) -> f32
+pub(crate) fn f2_at(ant: Curtain, e: Elevation, phi: f32) -> f32
     requires { ⌜ ant .nbs ≤ 14 ⌝ }
-    ensures { λ r. ⌜ r ≡ Pattern.f2At ant e phi ⌝ }
+    ensures { λ r. ⌜ r ≡ Steps.f2At ant e phi ⌝ }
 {
     let cphi = numeric::sine::cos(phi);
     let sphi = numeric::sine::sin(phi);
@@ -104,8 +105,8 @@ pub fn f2_at(ant: Curtain, e: Elevation, phi: f32) -> f32
 }
 
 // The curtain's unnormalised power pattern at one direction, in radians.
-pub fn f2(ant: Curtain, theta: f32, phi: f32) -> f32
-    requires { ⌜ (ant .nbs ≤ 14) × (ant .nostak ≤ 8) ⌝ }
+pub(crate) fn f2(ant: Curtain, theta: f32, phi: f32) -> f32
+    requires { ⌜ Pattern.Counted ant ⌝ }
     ensures { λ r. ⌜ r ≡ Pattern.f2 ant theta phi ⌝ }
 {
     f2_at(ant, elevation_at(ant, theta), phi)

@@ -1,22 +1,21 @@
 // From the twenty parameters to what the pattern is computed from: the source's `PATTRN0`.
+use crate::constants::D2R;
+use crate::constants::PI2;
+use crate::constants::VOFL;
 use crate::counts::bays;
 use crate::counts::clamp;
 use crate::excitation::bay_phase;
 use crate::excitation::stack_ratio;
-use crate::integral::D2R;
 use crate::pattern::Curtain;
-use model::angle::nint;
+use floats::rounding::nint;
 ghost use mathlib.Core.Path.{_≡_};
 ghost use Prim.Native.Nat.{_≤_};
+ghost use Rattle.curtain.specs.Pattern as Pattern;
 ghost use Rattle.curtain.specs.Pattrn0 as Pattrn0;
-
-const VOFL: f32 = 299.79246;
-
-const PI2: f32 = 6.283185307;
 
 // Lengths in radians of the operating wave: of the lowest stack's height, the bays' spacing, the
 // dipoles, the screen's distance and the stacks' spacing.
-pub struct Lengths {
+pub(crate) struct Lengths {
     pub xh: f32,
     pub xb: f32,
     pub el: f32,
@@ -57,64 +56,56 @@ fn lengths_of(parm: [f32; 20]) -> Lengths
     }
 }
 
-fn stack_ratios(mode: usize, nostak: usize) -> [f32; 8]
-    requires { ⌜ (1 ≤ mode) × (mode ≤ 15) × (nostak ≤ 8) ⌝ }
-    ensures { λ r. ⌜ r ≡ Pattrn0.stackRatios mode nostak ⌝ }
-{
-    let mut c = [0.0f32; 8];
-    for is in 0..nostak {
-        c[is] = stack_ratio(mode, is);
-    }
-    c
+// The stacks' ratios and heights.
+pub(crate) struct Stacks {
+    pub c: [f32; 8],
+    pub z: [f32; 8],
 }
 
-fn stack_heights(xs: f32, xh: f32, nostak: usize) -> [f32; 8]
-    requires { ⌜ nostak ≤ 8 ⌝ }
-    ensures { λ r. ⌜ r ≡ Pattrn0.stackHeights xs xh nostak ⌝ }
+fn stacks_of(mode: usize, l: Lengths, nostak: usize) -> Stacks
+    requires { ⌜ (1 ≤ mode) × (mode ≤ 15) × (nostak ≤ 8) ⌝ }
+    ensures { λ r. ⌜ r .c ≡ Pattrn0.stackRatios mode nostak ⌝ }
+    ensures { λ r. ⌜ r .z ≡ Pattrn0.stackHeights (l .xs) (l .xh) nostak ⌝ }
 {
+    let xs = l.xs;
+    let xh = l.xh;
+    let mut c = [0.0f32; 8];
     let mut z = [0.0f32; 8];
     for is in 0..nostak {
+        c[is] = stack_ratio(mode, is);
         z[is] = xs * is as f32 + xh;
     }
-    z
+    Stacks { c, z }
 }
 
-fn bay_phases(odrat: f32, islew: i32, nbs: usize) -> [f32; 14]
+// The bays' phases, ratios and places.
+pub(crate) struct Bays {
+    pub ps: [f32; 14],
+    pub r: [f32; 14],
+    pub y: [f32; 14],
+}
+
+fn bays_of(odrat: f32, islew: i32, xb: f32, nbs: usize) -> Bays
     requires { ⌜ nbs ≤ 14 ⌝ }
-    ensures { λ r. ⌜ r ≡ Pattrn0.bayPhases odrat islew nbs ⌝ }
+    ensures { λ t. ⌜ t .ps ≡ Pattrn0.bayPhases odrat islew nbs ⌝ }
+    ensures { λ t. ⌜ t .r ≡ Pattrn0.bayRatios nbs ⌝ }
+    ensures { λ t. ⌜ t .y ≡ Pattrn0.bayPlaces xb nbs ⌝ }
 {
     let mut ps = [0.0f32; 14];
-    for ib in 0..nbs {
-        ps[ib] = odrat * bay_phase(islew, ib);
-    }
-    ps
-}
-
-fn bay_ratios(nbs: usize) -> [f32; 14]
-    requires { ⌜ nbs ≤ 14 ⌝ }
-    ensures { λ r. ⌜ r ≡ Pattrn0.bayRatios nbs ⌝ }
-{
     let mut r = [0.0f32; 14];
-    for ib in 0..nbs {
-        r[ib] = 1.0;
-    }
-    r
-}
-
-fn bay_places(xb: f32, nbs: usize) -> [f32; 14]
-    requires { ⌜ nbs ≤ 14 ⌝ }
-    ensures { λ r. ⌜ r ≡ Pattrn0.bayPlaces xb nbs ⌝ }
-{
     let mut y = [0.0f32; 14];
     for ib in 0..nbs {
+        ps[ib] = odrat * bay_phase(islew, ib);
+        r[ib] = 1.0;
         y[ib] = ib as f32 * xb;
     }
     y[0] = 0.0;
-    y
+    Bays { ps, r, y }
 }
 
-pub fn curtain_of(parm: [f32; 20]) -> Curtain
+pub(crate) fn curtain_of(parm: [f32; 20]) -> Curtain
     ensures { λ r. ⌜ r ≡ Pattrn0.curtainOf parm ⌝ }
+    ensures { λ r. ⌜ Pattern.Counted r ⌝ }
 {
     let l = lengths_of(parm);
     let nostak = clamp(parm[6], 0, 8);
@@ -123,11 +114,13 @@ pub fn curtain_of(parm: [f32; 20]) -> Curtain
     let odrat = D2R * parm[4] / parm[7];
     let eil = l.el / 2.0;
     let ceil = numeric::sine::cos(eil);
-    let c = stack_ratios(mode, nostak);
-    let z = stack_heights(l.xs, l.xh, nostak);
-    let ps = bay_phases(odrat, nint(parm[14]), nbs);
-    let r = bay_ratios(nbs);
-    let y = bay_places(l.xb, nbs);
+    let stacks = stacks_of(mode, l, nostak);
+    let c = stacks.c;
+    let z = stacks.z;
+    let row = bays_of(odrat, nint(parm[14]), l.xb, nbs);
+    let ps = row.ps;
+    let r = row.r;
+    let y = row.y;
     Curtain {
         nostak,
         eil,

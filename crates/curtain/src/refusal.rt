@@ -1,28 +1,55 @@
-// Why a curtain is refused before its level is computed.
+// Why a curtain is refused before its level is computed: the first number of document 01's table,
+// 0 where there is none.
+use floats::range::all_finite;
+use floats::range::is_between;
 use model::limits::in_band;
-use model::range::all_finite;
-use model::range::is_between;
 use numeric::float::is_finite;
 ghost use mathlib.Core.Path.{_≡_};
 ghost use Rattle.curtain.specs.Answers as Answers;
 
-// 2: an input float isn't finite.
-pub fn value_refused(parm: [f32; 20], azimd: f32, elevd: f32, gnorm: f32) -> bool
-    ensures { λ r. ⌜ r ≡ Answers.valueRefused parm azimd elevd gnorm ⌝ }
+fn station_finite(parm: [f32; 20], gnorm: f32) -> bool
+    ensures { λ r. ⌜ r ≡ Answers.stationFinite parm gnorm ⌝ }
 {
-    !(all_finite(&parm) & is_finite(azimd) & is_finite(elevd) & is_finite(gnorm))
+    all_finite(&parm) & is_finite(gnorm)
 }
 
-// 5: operating or design MHz.
-pub fn band_refused(parm: [f32; 20]) -> bool
-    ensures { λ r. ⌜ r ≡ Answers.bandRefused parm ⌝ }
+// Operating and design MHz.
+fn band_ok(parm: [f32; 20]) -> bool
+    ensures { λ r. ⌜ r ≡ Answers.bandOk parm ⌝ }
 {
-    !(in_band(parm[4]) & in_band(parm[7]))
+    in_band(parm[4]) & in_band(parm[7])
 }
 
-// 7: the slew.
-pub fn aim_refused(parm: [f32; 20]) -> bool
-    ensures { λ r. ⌜ r ≡ Answers.aimRefused parm ⌝ }
+// The slew.
+fn aim_ok(parm: [f32; 20]) -> bool
+    ensures { λ r. ⌜ r ≡ Answers.aimOk parm ⌝ }
 {
-    !is_between(parm[14], -90.0, 90.0)
+    is_between(parm[14], -90.0, 90.0)
+}
+
+// Of a station with its factor, in any direction.
+fn station_refusal(parm: [f32; 20], gnorm: f32) -> u8
+    ensures { λ r. ⌜ r ≡ Answers.stationRefusalOf parm gnorm ⌝ }
+{
+    if !station_finite(parm, gnorm) {
+        return answers::VALUE;
+    }
+    if !band_ok(parm) {
+        return answers::BAND;
+    }
+    if !aim_ok(parm) {
+        return answers::AIM;
+    }
+    0
+}
+
+// Of a station in one direction. VALUE is the lowest number that a curtain is refused with, so the
+// direction's goes before all of the station's.
+pub(crate) fn refusal(parm: [f32; 20], azimd: f32, elevd: f32, gnorm: f32) -> u8
+    ensures { λ r. ⌜ r ≡ Answers.refusalOf parm azimd elevd gnorm ⌝ }
+{
+    if !(is_finite(azimd) & is_finite(elevd)) {
+        return answers::VALUE;
+    }
+    station_refusal(parm, gnorm)
 }

@@ -5,14 +5,15 @@ use lib.ListN.{getD}
 use lib.Dec.{leb, eqb}
 use lib.Ieee.{Float, nan}
 use Rattle.numeric.specs.Sine.{sine, cosine}
-use Rattle.model.specs.Ops.{_⊕_, _⊖_, _⊗_, _⊘_, count, +0}
-use Rattle.model.specs.Literals.{one, two}
-use Rattle.model.specs.Angle.{nintOf, turnsOf}
+use Rattle.floats.specs.Ops.{_⊕_, _⊖_, _⊗_, _⊘_, count, +0}
+use Rattle.floats.specs.Literals.{one, two}
+use Rattle.floats.specs.Rounding.{nintOf, turnsOf}
+use Rattle.model.specs.Types.{arrayType, crossedType}
 use Rattle.model.specs.declared.record.Constants.{Constants}
 use Rattle.model.specs.declared.record.Factors.{Factors}
 use Rattle.model.specs.declared.record.Ground.{Ground}
 use Rattle.model.specs.declared.record.Trig.{Trig}
-use Rattle.model.specs.Filled.{filledTo}
+use Rattle.floats.specs.Filled.{filledTo}
 use Rattle.ground.specs.Reflection.{refCof}
 use Rattle.ground.specs.declared.reflection.Reflection.{Reflection}
 use Rattle.ground.specs.declared.factors.Stack.{Stack}
@@ -63,9 +64,9 @@ bare r = record { w3 = r .t1; w4 = r .t2; w5 = r .t3; w6 = r .t4; w9 = +0; w10 =
 unfoldable pub noFactors : Factors
 noFactors = record { w3 = +0; w4 = +0; w5 = +0; w6 = +0; w9 = +0; w10 = +0 }
 
--- types up to 4, 8 and 9
+-- `iant <= 4 || iant == 8 || iant == 9`
 unfoldable pub overGround : ℕ → Bool
-overGround iant = leb iant 4 || eqb iant 8 || eqb iant 9
+overGround iant = arrayType iant || crossedType iant
 
 -- the factors at the elevation whose sine and cosine are a0 and b0
 unfoldable pub factorsAt : ℕ → Constants → Float → Float → Factors

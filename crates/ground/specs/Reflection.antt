@@ -2,8 +2,8 @@
 use lib.Ieee.{Float, neg}
 use Rattle.numeric.specs.Root.{sqrtOf}
 use Rattle.numeric.specs.Float.{mag}
-use Rattle.model.specs.Ops.{_⊕_, _⊖_, _⊗_, _⊘_}
-use Rattle.model.specs.Literals.{two}
+use Rattle.floats.specs.Ops.{_⊕_, _⊖_, _⊗_, _⊘_}
+use Rattle.floats.specs.Literals.{two}
 use Rattle.ground.specs.declared.reflection.Reflection.{Reflection}
 
 unfoldable pub refCof : Float → Float → Float → Float → Reflection

@@ -1,14 +1,15 @@
 -- `parmprec`'s rule for types 5 and 6, which fills the flat table. Definitions only.
 use Prim.Native.Nat.{ℕ, zero, suc}
-use mathlib.Core.Bool.{Bool, cond, _||_}
+use mathlib.Core.Bool.{cond}
 use mathlib.Core.List.{List}
 use lib.ListN.{getD, set}
 use lib.Dec.{eqb}
 use lib.Ieee.{Float, nan}
 use Rattle.numeric.specs.Sine.{sine, cosine}
-use Rattle.model.specs.Ops.{_⊕_, _⊖_, _⊗_, _⊘_, +0}
-use Rattle.model.specs.Literals.{one, two}
+use Rattle.floats.specs.Ops.{_⊕_, _⊖_, _⊗_, _⊘_, +0}
+use Rattle.floats.specs.Literals.{one, two}
 use Rattle.model.specs.Table.{cell, blankTable}
+use Rattle.model.specs.Types.{logPeriodic}
 use Rattle.model.specs.declared.record.Entry.{Entry}
 use Rattle.model.specs.declared.record.Model.{Model}
 use Rattle.ground.specs.Reflection.{refCof}
@@ -62,9 +63,6 @@ rowTo entry iek u t (suc k) = let i = getD iek (suc k) 0 in withEntry (rowTo ent
 unfoldable pub elevationsTo : Model → List Float → ℕ → List Float
 elevationsTo m t zero = t
 elevationsTo m t (suc u) = rowTo (entryAt m u) (m .elements .iek) u (elevationsTo m t u) (m .elements .nat)
-
-unfoldable pub logPeriodic : ℕ → Bool
-logPeriodic iant = eqb iant 5 || eqb iant 6
 
 -- the table of a model: entries not filled are +0
 unfoldable pub tableOf : Model → List Float

@@ -5,10 +5,11 @@ use mathlib.Core.Path.{_≡_}
 use lib.ListN.{getD, set}
 use lib.Ieee.{Float, nan}
 use Rattle.numeric.specs.Sine.{sine, cosine}
-use Rattle.model.specs.Ops.{_⊗_, count}
-use Rattle.model.specs.Literals.{literal, q1}
+use Rattle.floats.specs.Ops.{_⊗_, count}
+use Rattle.floats.specs.Literals.{q1}
+use Rattle.ground.specs.Literals.{n0·005, n90·05, n90·105}
 use Rattle.model.specs.declared.record.Trig.{Trig}
-use Rattle.model.specs.Filled.{filledTo}
+use Rattle.floats.specs.Filled.{filledTo}
 
 -- the sines and the cosines of the whole degrees below n
 abbrev pub sinesTo : ℕ → List Float
@@ -19,15 +20,15 @@ cosinesTo n = filledTo (λ (z : ℕ). cosine (count z ⊗ q1)) 91 n
 
 -- the doctored entries: a(90) is the sine of 90.05 degrees
 abbrev pub sine90 : Float
-sine90 = sine (literal 0x42b4199a ⊗ q1)
+sine90 = sine (n90·05 ⊗ q1)
 
 -- b(90) is the cosine of 90.105 degrees
 abbrev pub cosine90 : Float
-cosine90 = cosine (literal 0x42b435c3 ⊗ q1)
+cosine90 = cosine (n90·105 ⊗ q1)
 
 -- and b(0) the cosine of 0.005 radians
 abbrev pub cosine0 : Float
-cosine0 = cosine (literal 0x3ba3d70a)
+cosine0 = cosine n0·005
 
 unfoldable pub trigTables : Trig
 trigTables = record { a = set (sinesTo 91) 90 sine90; b = set (set (cosinesTo 91) 90 cosine90) 0 cosine0 }

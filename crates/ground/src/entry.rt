@@ -1,6 +1,9 @@
 // `parmprec` for one element of a log-periodic at one elevation.
 use crate::reflection::Reflection;
 use model::record::Entry;
+use model::table::PART;
+use model::table::ROW;
+use model::table::SIZE;
 ghost use mathlib.Core.Path.{_≡_};
 ghost use Prim.Native.Nat.{_<_};
 ghost use Rattle.ground.specs.Table.{deltaOf, horizontalEntry, verticalEntry, entryOf, withEntry};
@@ -50,14 +53,14 @@ pub(crate) fn entry_of(iant: u32, r: Reflection, phase: f32) -> Entry
     }
 }
 
-// The entry of element i at elevation u, put into the table's four parts of 91 times 31 floats.
-pub(crate) fn put_entry(t: &mut [f32; 11284], u: usize, i: usize, e: Entry)
+// The entry of element i at elevation u, put into the table's four parts.
+pub(crate) fn put_entry(t: &mut [f32; SIZE], u: usize, i: usize, e: Entry)
     requires { ⌜ (u < 91) × (i < 31) ⌝ }
     ensures { λ _. ⌜ now (t .exit) ≡ withEntry (now (t .entry)) u i e ⌝ }
 {
-    let at = u * 31 + i;
+    let at = u * ROW + i;
     t[at] = e.ww1;
-    t[at + 2821] = e.ww2;
-    t[at + 5642] = e.ww3;
-    t[at + 8463] = e.ww4;
+    t[at + PART] = e.ww2;
+    t[at + 2 * PART] = e.ww3;
+    t[at + 3 * PART] = e.ww4;
 }

@@ -3,6 +3,8 @@
 use crate::reflection::Reflection;
 use model::record::Constants;
 use model::record::Factors;
+use model::types::array_type;
+use model::types::crossed_type;
 ghost use mathlib.Core.Path.{_≡_};
 ghost use Rattle.ground.specs.Ground.{single, stackTo, stackOf, mixed, bare, noFactors, overGround, factorsAt};
 
@@ -46,8 +48,8 @@ fn stack_of(iant: u32, k: Constants, a0: f32) -> Stack
     if iant >= 4 {
         return one_dipole(k.h1, pfra);
     }
-    let count = model::angle::nint(k.r3 - 1.0);
-    stacked(k.h1, pfra, model::angle::turns(count))
+    let count = floats::rounding::nint(k.r3 - 1.0);
+    stacked(k.h1, pfra, floats::rounding::turns(count))
 }
 
 // The dipoles with their reflection.
@@ -96,11 +98,11 @@ fn no_factors() -> Factors
     }
 }
 
-// The types whose dipoles stand over ground: up to 4, 8 and 9.
+// The types that are dipoles over ground.
 fn over_ground(iant: u32) -> bool
     ensures { λ r. ⌜ r ≡ overGround iant ⌝ }
 {
-    (iant <= 4) | (iant == 8) | (iant == 9)
+    array_type(iant) | crossed_type(iant)
 }
 
 // At the elevation whose sine and cosine are a0 and b0.

@@ -1,7 +1,9 @@
-// The tables that set-up leaves: `trigfun`'s degrees, and what `parmprec` makes of them and of
-// the ground's reflection, `refcof`.
-pub mod entry;
-pub mod factors;
+// The tables that set-up leaves, inner steps of it: `trigfun` is `trigTables` and `ground_of` is
+// `groundOf`, for every argument; `table_of` is `tableOf`, for every record whose counts are
+// accepted (`countsOk`). What they hold stands in the theorems `degree-tables`, `table-length` and
+// `unfilled`.
+mod entry;
+mod factors;
 pub mod parmprec;
-pub mod reflection;
+mod reflection;
 pub mod trig;

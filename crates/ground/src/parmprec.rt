@@ -6,18 +6,20 @@ use model::record::Elements;
 use model::record::Ground;
 use model::record::Model;
 use model::record::Trig;
+use model::table::SIZE;
 use model::table::blank_table;
+use model::types::log_periodic;
 ghost use mathlib.Core.Path.{_≡_};
 ghost use mathlib.Core.Bool.{true};
 ghost use Prim.Native.Nat.{ℕ, _≤_, _<_};
 ghost use lib.ListN.{getD};
 ghost use lib.Ieee.{nan};
-ghost use Rattle.model.specs.Ops.{_⊗_};
+ghost use Rattle.floats.specs.Ops.{_⊗_};
 ghost use Rattle.model.specs.Counts.{elementsOk, countsOk};
 ghost use Rattle.ground.specs.Ground.{groundOf};
-ghost use Rattle.ground.specs.Table.{entryOf, rowTo, elevationsTo, logPeriodic, tableOf};
+ghost use Rattle.ground.specs.Table.{entryOf, rowTo, elevationsTo, tableOf};
 
-// The tables of every type but 5 and 6.
+// Inner step of set-up, the tables by elevation: those of every type but 5 and 6, which leave 0.
 pub fn ground_of(iant: u32, k: Constants, t: Trig) -> Ground
     ensures { λ r. ⌜ r ≡ groundOf iant k t ⌝ }
 {
@@ -45,14 +47,7 @@ pub fn ground_of(iant: u32, k: Constants, t: Trig) -> Ground
 
 // The active elements at elevation u, where the reflection is r and the phase delta for each
 // unit of height.
-fn fill_row(
-    t: &mut [f32; 11284],
-    u: usize,
-    iant: u32,
-    r: Reflection,
-    delta: f32,
-    elements: Elements,
-)
+fn fill_row(t: &mut [f32; SIZE], u: usize, iant: u32, r: Reflection, delta: f32, elements: Elements)
     requires { ⌜ (u < 91) × (elements .nat ≤ 30) × (elementsOk (elements .iek) (elements .nat) ≡ true) ⌝ }
     ensures { λ _. ⌜ now (t .exit) ≡ rowTo (λ (i : ℕ). entryOf iant r (delta ⊗ getD (elements .h) i nan)) (elements .iek) u (now (t .entry)) (elements .nat) ⌝ }
 {
@@ -68,7 +63,7 @@ fn fill_row(
 
 // All elevations. The source works the reflection out anew for each element; it is the same for
 // all of them.
-fn fill_elevations(t: &mut [f32; 11284], m: Model)
+fn fill_elevations(t: &mut [f32; SIZE], m: Model)
     requires { ⌜ countsOk m ≡ true ⌝ }
     ensures { λ _. ⌜ now (t .exit) ≡ elevationsTo m (now (t .entry)) 91 ⌝ }
 {
@@ -84,14 +79,9 @@ fn fill_elevations(t: &mut [f32; 11284], m: Model)
     }
 }
 
-fn log_periodic(iant: u32) -> bool
-    ensures { λ r. ⌜ r ≡ logPeriodic iant ⌝ }
-{
-    (iant == 5) | (iant == 6)
-}
-
-// The flat table of the log-periodic types, blank for all others.
-pub fn table_of(m: Model) -> [f32; 11284]
+// Inner step of set-up, for a record whose counts it has accepted: the flat table of the
+// log-periodic types, blank for all others.
+pub fn table_of(m: Model) -> [f32; SIZE]
     requires { ⌜ countsOk m ≡ true ⌝ }
     ensures { λ r. ⌜ r ≡ tableOf m ⌝ }
 {

@@ -8,7 +8,7 @@ const P1: f32 = 3.1415927;
 // Degrees to radians.
 const Q1: f32 = P1 / 180.0;
 
-// The source's ends stay: 90.05 and 90.105 degrees for 90, and 0.005 radians for 0.
+// Inner step of set-up. The source's ends stay: 90.05 and 90.105 degrees for 90, and 0.005 radians for 0.
 pub fn trigfun() -> Trig
     ensures { λ r. ⌜ r ≡ trigTables ⌝ }
 {

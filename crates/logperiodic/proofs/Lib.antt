@@ -1,2 +1,1 @@
--- What the proofs share.
-pub mod Listing
+-- By module. No crate above cites a law of this one: `logparm`'s contract says all that they use.

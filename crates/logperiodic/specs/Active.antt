@@ -6,16 +6,18 @@ use mathlib.Core.List.{List}
 use lib.ListN.{getD, set, replicate}
 use lib.Ieee.{Float, le}
 use Rattle.numeric.specs.Sine.{sine}
-use Rattle.model.specs.Ops.{_⊕_, _⊖_, _⊗_, _⊘_, +0, at}
-use Rattle.model.specs.Literals.{one, four}
-use Rattle.model.specs.Ranges.{between}
+use Rattle.floats.specs.Ops.{_⊕_, _⊖_, _⊗_, _⊘_, +0, at}
+use Rattle.floats.specs.Literals.{one, four}
+use Rattle.floats.specs.Ranges.{between}
 use Rattle.model.specs.Counts.{elementsOk}
 use Rattle.logperiodic.specs.Literals.{n1·098790227, n1·055146365, n3·208544524, n5·766460847, n4·054233788, n1·1, n30·7, n0·7166, n1000}
 use Rattle.logperiodic.specs.Current.{currentAt, phaseAt}
 use Rattle.logperiodic.specs.declared.current.Band.{Band}
 use Rattle.logperiodic.specs.declared.current.Curves.{Curves}
 use Rattle.logperiodic.specs.declared.active.Active.{Active}
+use Rattle.logperiodic.specs.declared.active.Excited.{Excited}
 use Rattle.logperiodic.specs.declared.active.Loudest.{Loudest}
+use Rattle.logperiodic.specs.declared.active.Feed.{Feed}
 
 -- `shf`, with powi(3) and powi(4) as document 01 has them
 unfoldable pub shape : Float → Float
@@ -47,7 +49,7 @@ pub record Listed (iek : List ℕ) (nat : ℕ) : Type 0 where
   pub few : nat ≤ 30
   pub named : elementsOk iek nat ≡ true
 
--- l, with f of its number for each of the first n active elements
+-- a loop of the source over `iek`: l, with f of its number for each of the first n active elements
 unfoldable pub overActive : List ℕ → List Float → (ℕ → Float) → ℕ → List Float
 overActive iek l f zero = l
 overActive iek l f (suc k) = let i = getD iek (suc k) 0 in set (overActive iek l f k) i (f i)
@@ -59,6 +61,10 @@ currents a s p rl = overActive (a .iek) (replicate 31 +0) (λ i. currentAt s p (
 -- `fi` by the lengths
 unfoldable pub phases : Active → Band → List Float → List Float
 phases a s rl = overActive (a .iek) (replicate 36 +0) (λ i. phaseAt s (at rl i)) (a .nat)
+
+-- the source's first loop
+unfoldable pub excited : Active → Band → Curves → List Float → Excited
+excited a s p rl = record { ria = currents a s p rl; fi = phases a s rl }
 
 -- the last of equal currents
 unfoldable pub louder : Loudest → Float → Float → Loudest
@@ -78,3 +84,7 @@ relativePhases a fi fimin = overActive (a .iek) fi (λ i. at fi i ⊖ fimin) (a 
 -- `rim`: the currents by the largest, over the sine of the electrical length
 unfoldable pub strengths : Active → List Float → Float → Float → List Float → List Float
 strengths a ria riamax beta rl = overActive (a .iek) (replicate 36 +0) (λ i. at ria i ⊘ riamax ⊘ sine (beta ⊗ at rl i)) (a .nat)
+
+-- the source's last loop
+unfoldable pub normalised : Active → List Float → List Float → Loudest → Float → List Float → Feed
+normalised a ria fi top beta rl = record { fi = relativePhases a fi (top .fimin); rim = strengths a ria (top .riamax) beta rl }

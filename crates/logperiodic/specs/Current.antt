@@ -1,9 +1,9 @@
 -- `parabol` and `curcal` of the source, and the current and phase of one element, from `logparm`. Definitions only.
 use mathlib.Core.Bool.{cond}
 use lib.Ieee.{Float, neg}
-use Rattle.model.specs.Ops.{_⊕_, _⊖_, _⊗_, _⊘_, +0}
-use Rattle.model.specs.Literals.{one, two, three, four}
-use Rattle.model.specs.Ranges.{between, fromTo}
+use Rattle.floats.specs.Ops.{_⊕_, _⊖_, _⊗_, _⊘_, +0}
+use Rattle.floats.specs.Literals.{one, two, three, four}
+use Rattle.floats.specs.Ranges.{between, fromTo}
 use Rattle.logperiodic.specs.Literals.{n0·316, n0·501, n0·676, n0·707, n0·876, n0·922, n0·976, n142, n150}
 use Rattle.logperiodic.specs.declared.current.Parabola.{Parabola}
 use Rattle.logperiodic.specs.declared.current.Band.{Band}

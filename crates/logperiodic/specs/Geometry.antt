@@ -9,8 +9,8 @@ use Rattle.numeric.specs.Sine.{sine}
 use Rattle.numeric.specs.Root.{sqrtOf}
 use Rattle.numeric.specs.Power.{powfOf}
 use Rattle.numeric.specs.Arctangent.{atanOf}
-use Rattle.model.specs.Ops.{_⊕_, _⊖_, _⊗_, _⊘_, +0, count, at}
-use Rattle.model.specs.Literals.{one, four}
+use Rattle.floats.specs.Ops.{_⊕_, _⊖_, _⊗_, _⊘_, +0, count, at}
+use Rattle.floats.specs.Literals.{one, four}
 use Rattle.logperiodic.specs.declared.geometry.Design.{Design}
 use Rattle.logperiodic.specs.declared.geometry.Boom.{Boom}
 use Rattle.logperiodic.specs.declared.geometry.Apex.{Apex}

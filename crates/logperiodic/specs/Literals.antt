@@ -3,8 +3,8 @@ use mathlib.Core.Bool.{true}
 use mathlib.Core.Path.{_≡_, refl}
 use mathlib.Core.List.{List, [], _∷_}
 use lib.Ieee.{Float, round, ofBits, toBits}
-use Rattle.model.specs.Literals.{literal}
-use Rattle.model.specs.Decimals.{Literal, written, nearest, allNearest}
+use Rattle.floats.specs.Literals.{literal}
+use Rattle.floats.specs.Decimals.{Literal, written, nearest, allNearest}
 
 abbrev pub n0·316 : Float
 n0·316 = literal 0x3ea1cac1

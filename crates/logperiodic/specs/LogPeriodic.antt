@@ -5,21 +5,20 @@ use lib.Ieee.{Float}
 use Rattle.model.specs.declared.record.Elements.{Elements}
 use Rattle.logperiodic.specs.Current.{curcalOf}
 use Rattle.logperiodic.specs.Geometry.{boom, taper, layout}
-use Rattle.logperiodic.specs.Active.{band, activeTo, currents, phases, loudest, relativePhases, strengths}
+use Rattle.logperiodic.specs.Active.{band, activeTo, excited, loudest, normalised}
 use Rattle.logperiodic.specs.declared.current.Band.{Band}
 use Rattle.logperiodic.specs.declared.geometry.Design.{Design}
 use Rattle.logperiodic.specs.declared.geometry.Layout.{Layout}
 use Rattle.logperiodic.specs.declared.active.Active.{Active}
-use Rattle.logperiodic.specs.declared.logparm.Feed.{Feed}
+use Rattle.logperiodic.specs.declared.active.Feed.{Feed}
 use Rattle.logperiodic.specs.declared.logparm.LogPeriodic.{LogPeriodic}
 
 -- phases taken from the largest current's, and currents by the largest
 unfoldable pub fed : Active → Band → List Float → Float → Feed
 fed a s rl beta =
-    let ria = currents a s (curcalOf s) rl in
-    let fi = phases a s rl in
-    let top = loudest a ria fi in
-    record { fi = relativePhases a fi (top .fimin); rim = strengths a ria (top .riamax) beta rl }
+    let x = excited a s (curcalOf s) rl in
+    let top = loudest a (x .ria) (x .fi) in
+    normalised a (x .ria) (x .fi) top beta rl
 
 unfoldable pub elements : Layout → Active → Feed → Elements
 elements t a f = record {

@@ -4,15 +4,27 @@ use crate::current::Band;
 use crate::current::Curves;
 use crate::current::current_of;
 use crate::current::phase_of;
-use model::range::is_between;
+use floats::range::is_between;
 ghost use mathlib.Core.Path.{_≡_};
 ghost use Prim.Native.Nat.{_<_, _≤_};
-ghost use Rattle.logperiodic.specs.Active.{shape, band, appended, activeTo, Listed, currents, phases, louder, loudest, relativePhases, strengths};
+ghost use Rattle.logperiodic.specs.Active.{shape, band, appended, activeTo, Listed, excited, louder, loudest, normalised};
 
 // The numbers of the nat active elements, at 1 to nat.
 pub struct Active {
     pub iek: [usize; 36],
     pub nat: usize,
+}
+
+// Currents and phases by the elements' lengths.
+pub struct Excited {
+    pub ria: [f32; 31],
+    pub fi: [f32; 36],
+}
+
+// Phases and currents, taken by the largest current.
+pub struct Feed {
+    pub fi: [f32; 36],
+    pub rim: [f32; 36],
 }
 
 // The largest current, and the phase there.
@@ -31,7 +43,7 @@ fn shape_of(z0: f32) -> f32
 }
 
 // The lengths between which an element is active.
-pub fn band_of(z0: f32, rlambda: f32, sigma: f32, tau: f32) -> Band
+pub(crate) fn band_of(z0: f32, rlambda: f32, sigma: f32, tau: f32) -> Band
     ensures { λ r. ⌜ r ≡ band z0 rlambda sigma tau ⌝ }
 {
     let rlc = rlambda * shape_of(z0) / 4.0;
@@ -61,7 +73,7 @@ fn append_active(a: Active, s: Band, i: usize, l: f32) -> Active
 }
 
 // The active ones of elements 1 to nel.
-pub fn active_of(s: Band, rl: [f32; 36], nel: usize) -> Active
+pub(crate) fn active_of(s: Band, rl: [f32; 36], nel: usize) -> Active
     requires { ⌜ nel ≤ 30 ⌝ }
     ensures { λ r. ⌜ r ≡ activeTo s rl nel ⌝ }
     ensures { λ r. ⌜ Listed (r .iek) (r .nat) ⌝ }
@@ -78,37 +90,23 @@ pub fn active_of(s: Band, rl: [f32; 36], nel: usize) -> Active
     a
 }
 
-// The currents of the active elements, 0 for all others.
-pub fn currents_of(a: Active, s: Band, p: Curves, rl: [f32; 36]) -> [f32; 31]
+// Currents and phases of the active elements by their lengths, 0 for all others.
+pub(crate) fn excited_of(a: Active, s: Band, p: Curves, rl: [f32; 36]) -> Excited
     requires { ⌜ Listed (a .iek) (a .nat) ⌝ }
-    ensures { λ r. ⌜ r ≡ currents a s p rl ⌝ }
+    ensures { λ r. ⌜ r ≡ excited a s p rl ⌝ }
 {
     let iek = a.iek;
     let nat = a.nat;
     let mut ria = [0.0f32; 31];
-    let mut k: usize = 0;
-    while k < nat {
-        k += 1;
-        let i = iek[k];
-        ria[i] = current_of(s, p, rl[i]);
-    }
-    ria
-}
-
-pub fn phases_of(a: Active, s: Band, rl: [f32; 36]) -> [f32; 36]
-    requires { ⌜ Listed (a .iek) (a .nat) ⌝ }
-    ensures { λ r. ⌜ r ≡ phases a s rl ⌝ }
-{
-    let iek = a.iek;
-    let nat = a.nat;
     let mut fi = [0.0f32; 36];
     let mut k: usize = 0;
     while k < nat {
         k += 1;
         let i = iek[k];
+        ria[i] = current_of(s, p, rl[i]);
         fi[i] = phase_of(s, rl[i]);
     }
-    fi
+    Excited { ria, fi }
 }
 
 // The last of equal currents.
@@ -125,7 +123,7 @@ fn louder_of(m: Loudest, ria: f32, fi: f32) -> Loudest
     }
 }
 
-pub fn loudest_of(a: Active, ria: [f32; 31], fi: [f32; 36]) -> Loudest
+pub(crate) fn loudest_of(a: Active, ria: [f32; 31], fi: [f32; 36]) -> Loudest
     requires { ⌜ Listed (a .iek) (a .nat) ⌝ }
     ensures { λ r. ⌜ r ≡ loudest a ria fi ⌝ }
 {
@@ -144,37 +142,30 @@ pub fn loudest_of(a: Active, ria: [f32; 31], fi: [f32; 36]) -> Loudest
     m
 }
 
-// The phases taken from the largest current's.
-pub fn relative_phases(a: Active, fi: [f32; 36], fimin: f32) -> [f32; 36]
+// The currents by the largest, over the sine of the element's electrical length; the phases from
+// the largest current's.
+pub(crate) fn normalised_of(
+    a: Active,
+    ria: [f32; 31],
+    fi: [f32; 36],
+    top: Loudest,
+    beta: f32,
+    rl: [f32; 36],
+) -> Feed
     requires { ⌜ Listed (a .iek) (a .nat) ⌝ }
-    ensures { λ r. ⌜ r ≡ relativePhases a fi fimin ⌝ }
+    ensures { λ r. ⌜ r ≡ normalised a ria fi top beta rl ⌝ }
 {
     let iek = a.iek;
     let nat = a.nat;
     let mut out = fi;
-    let mut k: usize = 0;
-    while k < nat {
-        k += 1;
-        let i = iek[k];
-        out[i] = fi[i] - fimin;
-    }
-    out
-}
-
-// The currents by the largest, over the sine of the element's electrical length.
-pub fn strengths_of(a: Active, ria: [f32; 31], riamax: f32, beta: f32, rl: [f32; 36]) -> [f32; 36]
-    requires { ⌜ Listed (a .iek) (a .nat) ⌝ }
-    ensures { λ r. ⌜ r ≡ strengths a ria riamax beta rl ⌝ }
-{
-    let iek = a.iek;
-    let nat = a.nat;
     let mut rim = [0.0f32; 36];
     let mut k: usize = 0;
     while k < nat {
         k += 1;
         let i = iek[k];
-        let rinm = ria[i] / riamax;
+        let rinm = ria[i] / top.riamax;
+        out[i] = fi[i] - top.fimin;
         rim[i] = rinm / numeric::sine::sin(beta * rl[i]);
     }
-    rim
+    Feed { fi: out, rim }
 }

@@ -1,7 +1,7 @@
 // The currents of a log-periodic antenna's active elements: `parabol`, `curcal`, and what they give
 // an element of some length.
-use model::range::is_between;
-use model::range::is_from_to;
+use floats::range::is_between;
+use floats::range::is_from_to;
 ghost use mathlib.Core.Path.{_≡_};
 ghost use Rattle.logperiodic.specs.Current.{parabolOf, vertexed, halfWay, threeQuarters, curcalOf, heightAt, currentAt, slope, phaseAt};
 
@@ -31,7 +31,7 @@ pub struct Curves {
 }
 
 // `parabol`: the parabola through three points.
-pub fn parabol(x1: f32, x2: f32, x3: f32, y1: f32, y2: f32, y3: f32) -> Parabola
+pub(crate) fn parabol(x1: f32, x2: f32, x3: f32, y1: f32, y2: f32, y3: f32) -> Parabola
     ensures { λ r. ⌜ r ≡ parabolOf x1 x2 x3 y1 y2 y3 ⌝ }
 {
     let dd = x1 * x1 * (x2 - x3) - x1 * (x2 * x2 - x3 * x3) + (x2 * x2 * x3 - x3 * x3 * x2);
@@ -72,7 +72,7 @@ fn three_quarters(s: Band) -> f32
 }
 
 // `curcal`: the current over the length.
-pub fn curcal(s: Band) -> Curves
+pub(crate) fn curcal(s: Band) -> Curves
     ensures { λ r. ⌜ r ≡ curcalOf s ⌝ }
 {
     let half = half_way(s);
@@ -97,7 +97,7 @@ fn height_at(p: Parabola, l: f32) -> f32
 }
 
 // The current of an element of length l; 0 where no segment holds.
-pub fn current_of(s: Band, p: Curves, l: f32) -> f32
+pub(crate) fn current_of(s: Band, p: Curves, l: f32) -> f32
     ensures { λ r. ⌜ r ≡ currentAt s p l ⌝ }
 {
     let half = half_way(s);
@@ -129,7 +129,7 @@ fn slope_of(s: Band, l: f32) -> f32
 }
 
 // The phase of an element of length l in degrees, 0 at rl0.
-pub fn phase_of(s: Band, l: f32) -> f32
+pub(crate) fn phase_of(s: Band, l: f32) -> f32
     ensures { λ r. ⌜ r ≡ phaseAt s l ⌝ }
 {
     let af = slope_of(s, l);

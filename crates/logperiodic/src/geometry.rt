@@ -39,7 +39,7 @@ pub struct Layout {
     pub sigma: f32,
 }
 
-pub fn boom_of(d: Design) -> Boom
+pub(crate) fn boom_of(d: Design) -> Boom
     ensures { λ r. ⌜ r ≡ boom d ⌝ }
 {
     let sinth = (d.hnel - d.h1) / d.dc;
@@ -50,7 +50,7 @@ pub fn boom_of(d: Design) -> Boom
 }
 
 // tau: the ratio of an element's length to the next one's.
-pub fn taper_of(d: Design, nel: usize) -> f32
+pub(crate) fn taper_of(d: Design, nel: usize) -> f32
     requires { ⌜ nel ≤ 30 ⌝ }
     ensures { λ r. ⌜ r ≡ taper d nel ⌝ }
 {
@@ -173,7 +173,7 @@ fn horizontal_layout(d: Design, nel: usize, tau: f32, b: Boom) -> Layout
 }
 
 // Type 5 is horizontal, type 6 vertical.
-pub fn layout_of(iant: u32, d: Design, nel: usize, tau: f32, b: Boom) -> Layout
+pub(crate) fn layout_of(iant: u32, d: Design, nel: usize, tau: f32, b: Boom) -> Layout
     requires { ⌜ (2 ≤ nel) × (nel ≤ 30) ⌝ }
     ensures { λ r. ⌜ r ≡ layout iant d nel tau b ⌝ }
 {

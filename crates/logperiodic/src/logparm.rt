@@ -1,13 +1,12 @@
 // `logparm`: the elements of a log-periodic antenna, types 5 and 6, with their places, currents and
 // phases.
 use crate::active::Active;
+use crate::active::Feed;
 use crate::active::active_of;
 use crate::active::band_of;
-use crate::active::currents_of;
+use crate::active::excited_of;
 use crate::active::loudest_of;
-use crate::active::phases_of;
-use crate::active::relative_phases;
-use crate::active::strengths_of;
+use crate::active::normalised_of;
 use crate::current::Band;
 use crate::current::curcal;
 use crate::geometry::Boom;
@@ -22,12 +21,6 @@ ghost use Prim.Native.Nat.{_≤_};
 ghost use Rattle.logperiodic.specs.Active.{Listed};
 ghost use Rattle.logperiodic.specs.LogPeriodic.{fed, elements, logParm};
 
-// Phases and currents of the active elements.
-pub struct Feed {
-    pub fi: [f32; 36],
-    pub rim: [f32; 36],
-}
-
 // The elements, and the boom's direction.
 pub struct LogPeriodic {
     pub elements: Elements,
@@ -38,13 +31,11 @@ fn feed_of(a: Active, s: Band, rl: [f32; 36], beta: f32) -> Feed
     requires { ⌜ Listed (a .iek) (a .nat) ⌝ }
     ensures { λ r. ⌜ r ≡ fed a s rl beta ⌝ }
 {
-    let ria = currents_of(a, s, curcal(s), rl);
-    let fi = phases_of(a, s, rl);
+    let x = excited_of(a, s, curcal(s), rl);
+    let ria = x.ria;
+    let fi = x.fi;
     let top = loudest_of(a, ria, fi);
-    Feed {
-        fi: relative_phases(a, fi, top.fimin),
-        rim: strengths_of(a, ria, top.riamax, beta, rl),
-    }
+    normalised_of(a, ria, fi, top, beta, rl)
 }
 
 fn elements_of(t: Layout, a: Active, f: Feed) -> Elements
@@ -69,8 +60,8 @@ fn elements_of(t: Layout, a: Active, f: Feed) -> Elements
     }
 }
 
-// `logparm`: the elements of a design of nel elements at the wavelength rlambda, whose phase per
-// metre is beta.
+// Inner step of set-up, for the counts of elements that it accepts: the elements of a design of nel
+// elements at the wavelength rlambda, whose phase per metre is beta.
 pub fn logparm(iant: u32, nel: usize, d: Design, rlambda: f32, beta: f32) -> LogPeriodic
     requires { ⌜ (2 ≤ nel) × (nel ≤ 30) ⌝ }
     ensures { λ r. ⌜ r ≡ logParm iant nel d rlambda beta ⌝ }

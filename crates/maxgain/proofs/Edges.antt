@@ -3,9 +3,9 @@ use mathlib.Core.Path.{_≡_, refl}
 use mathlib.Core.List.{List}
 use lib.Ieee.{Float, binary32, add, sub, div, lt, le, eq, round, ofBits, ofInt, toUnsigned}
 use lib.Ieee.Fits.{sub-fits}
-use Rattle.model.specs.Ops.{_⊕_, _⊖_, count, at}
-use Rattle.model.specs.Literals.{one, ten, thirty, thirtyOne}
-use Rattle.model.specs.Ranges.{between}
+use Rattle.floats.specs.Ops.{_⊕_, _⊖_, count, at}
+use Rattle.floats.specs.Literals.{one, ten, thirty, thirtyOne}
+use Rattle.floats.specs.Ranges.{between}
 use Rattle.maxgain.specs.Interpolation.{lowerMhz, gainTerB}
 use Rattle.maxgain.specs.Maximum.{usable, designed, tuned}
 use Rattle.maxgain.proofs.TimesOne.{times-one}

@@ -1,5 +1,4 @@
--- What the proofs share, and what the definitions say: refusals and edges.
-mod Cuts
-mod TimesOne
-pub mod Refusals
+-- The edges that crates above cite, and what the definitions say of refusals; what one module's proofs share stands in its folder.
 pub mod Edges
+mod Refusals
+mod TimesOne

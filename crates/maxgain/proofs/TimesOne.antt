@@ -10,8 +10,8 @@ use lib.Ieee.{Float, nan, inf, fin, binary32, up, down, mul, round, fits, ofBits
 use lib.Ieee.Fits.{down-pos, round-fits}
 use lib.Ieee.Exact.{round-exact}
 use lib.Ieee.Scale.{round-same}
-use Rattle.model.specs.Ops.{_⊗_}
-use Rattle.model.specs.Literals.{one}
+use Rattle.floats.specs.Ops.{_⊗_}
+use Rattle.floats.specs.Literals.{one}
 use Rattle.numeric.proofs.Steps.{on-grid, steps-are, steps-lt, same-steps}
 
 -- a value that binary32 holds rounds to itself

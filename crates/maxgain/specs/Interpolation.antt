@@ -4,9 +4,9 @@ use mathlib.Core.Bool.{Bool, cond, not}
 use mathlib.Core.List.{List, [], _∷_}
 use lib.Dec.{eqb}
 use lib.Ieee.{Float, neg, lt, toUnsigned}
-use Rattle.model.specs.Ops.{_⊕_, _⊖_, _⊗_, _⊘_, count, at}
-use Rattle.model.specs.Literals.{one, two, thirty}
-use Rattle.model.specs.Ranges.{between}
+use Rattle.floats.specs.Ops.{_⊕_, _⊖_, _⊗_, _⊘_, count, at}
+use Rattle.floats.specs.Literals.{one, two, thirty}
+use Rattle.floats.specs.Ranges.{between}
 use Rattle.maxgain.specs.Literals.{n0·7, n1·4, n0·85, n1·2, n28}
 
 -- the whole MHz below freq; 29 at 30

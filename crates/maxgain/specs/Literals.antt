@@ -3,8 +3,8 @@ use mathlib.Core.Bool.{true}
 use mathlib.Core.Path.{_≡_, refl}
 use mathlib.Core.List.{[], _∷_}
 use lib.Ieee.{Float, round, ofBits, toBits}
-use Rattle.model.specs.Literals.{literal}
-use Rattle.model.specs.Decimals.{written, nearest, allNearest}
+use Rattle.floats.specs.Literals.{literal}
+use Rattle.floats.specs.Decimals.{written, nearest, allNearest}
 
 abbrev pub n0·7 : Float
 n0·7 = literal 0x3f333333

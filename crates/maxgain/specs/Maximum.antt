@@ -1,17 +1,18 @@
 -- `setmaxgain` of the source, with document 01's refusals. Definitions only.
 use Prim.Native.Nat.{ℕ}
-use mathlib.Core.Bool.{Bool, true, cond, not, _&&_}
+use mathlib.Core.Bool.{cond}
 use mathlib.Core.List.{List}
 use lib.ListN.{set}
 use lib.Dec.{ltb, eqb}
 use lib.Ieee.{Float}
 use lib.Ieee.Scale.{finite}
-use Rattle.model.specs.Ops.{_⊘_, at}
-use Rattle.model.specs.Literals.{two, ten, thirty}
-use Rattle.model.specs.Ranges.{between, allFinite}
-use Rattle.model.specs.Limits.{typeOk, inBand}
-use Rattle.model.specs.Angle.{jantOf}
+use Rattle.floats.specs.Ops.{_⊘_, at}
+use Rattle.floats.specs.Literals.{two, ten, thirty}
+use Rattle.floats.specs.Ranges.{between}
+use Rattle.model.specs.Types.{jantOf}
+use Rattle.answers.specs.Refusals.{LEVEL}
 use Rattle.maxgain.specs.Literals.{n0·7, n1·4}
+use Rattle.maxgain.specs.Refusals.{refusalOf}
 use Rattle.maxgain.specs.Interpolation.{gainTerB, gainTerp}
 use Rattle.maxgain.specs.declared.maximum.Answer.the-variants.{Gain, Refused}
 use Rattle.maxgain.specs.declared.maximum.Maximum.{Maximum}
@@ -56,28 +57,18 @@ found mode iant parm gainmax gainmaxb mhz design =
     (cond (eqb mode 1) (byRatio parm iant gainmax (tuned mhz design))
     (byMhz parm gainmaxb mhz))
 
--- ---- the answer, with the numbers of document 01's table
-
-unfoldable pub inputsFinite : List Float → List Float → List Float → Float → Float → Bool
-inputsFinite parm gainmax gainmaxb mhz design =
-    allFinite parm && allFinite gainmax && allFinite gainmaxb && finite mhz && finite design
-
--- mode 2 alone has a band
-unfoldable pub bandOk : ℕ → Float → Bool
-bandOk mode mhz = cond (eqb mode 2) (inBand mhz) true
+-- ---- the answer
 
 -- a refusal leaves the parameters as they were
 unfoldable pub refused : ℕ → List Float → Maximum
 refused number parm = record { answer = Refused number; parm = parm }
 
+-- the gain isn't finite
 unfoldable pub graded : Found → List Float → Maximum
-graded f parm = cond (finite (f .gain)) (record { answer = Gain (f .gain); parm = f .parm }) (refused 10 parm)
+graded f parm = cond (finite (f .gain)) (record { answer = Gain (f .gain); parm = f .parm }) (refused LEVEL parm)
 
+-- lowest number first
 unfoldable pub setMaxGain : ℕ → List Float → List Float → List Float → Float → Float → Maximum
 setMaxGain mode parm gainmax gainmaxb mhz design =
-    let iant = jantOf (at parm 1) in
-    cond (not (inputsFinite parm gainmax gainmaxb mhz design)) (refused 2 parm)
-    (cond (not (typeOk iant)) (refused 3 parm)
-    (cond (ltb 2 mode) (refused 4 parm)
-    (cond (not (bandOk mode mhz)) (refused 5 parm)
-    (graded (found mode iant parm gainmax gainmaxb mhz design) parm))))
+    let number = refusalOf mode parm gainmax gainmaxb mhz design in
+    cond (ltb 0 number) (refused number parm) (graded (found mode (jantOf (at parm 1)) parm gainmax gainmaxb mhz design) parm)

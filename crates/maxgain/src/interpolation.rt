@@ -1,5 +1,5 @@
 // The maximum gain between the gains that an antenna file lists: per MHz, or by frequency ratio.
-use model::range::is_between;
+use floats::range::is_between;
 ghost use mathlib.Core.Path.{_≡_};
 ghost use mathlib.Core.Bool.{true};
 ghost use Prim.Native.Nat.{_<_, _≤_};
@@ -17,7 +17,7 @@ fn lower_mhz(freq: f32) -> usize
 }
 
 // `gainterb`: the maximum gain by the gains at 1, 2 .. 30 MHz (types 5 to 7).
-pub fn gainterb(gainab: [f32; 30], freq: f32) -> f32
+pub(crate) fn gainterb(gainab: [f32; 30], freq: f32) -> f32
     requires { ⌜ inBand freq ≡ true ⌝ }
     ensures { λ r. ⌜ r ≡ gainTerB gainab freq ⌝ }
 {
@@ -48,7 +48,7 @@ fn ratio_index(fr: f32) -> usize
 }
 
 // `gainterp1`: the maximum gain at the ratio fr by three gains at one frequency.
-pub fn gainterp1(gainaa: [f32; 3], fr: f32, iant: u32) -> f32
+pub(crate) fn gainterp1(gainaa: [f32; 3], fr: f32, iant: u32) -> f32
     ensures { λ r. ⌜ r ≡ gainTerp1 gainaa fr iant ⌝ }
 {
     let frs = ratios_of(iant);
@@ -71,7 +71,7 @@ fn ratio_ok(iant: u32, fr: f32) -> bool
 
 // `gainterp`: the maximum gain between the row at 2 MHz and the row at 30 MHz (types 1 to 4, 8 and
 // 9); -30 where the ratio lies outside.
-pub fn gainterp(gainmax: [f32; 6], foper: f32, fdesign: f32, iant: u32) -> f32
+pub(crate) fn gainterp(gainmax: [f32; 6], foper: f32, fdesign: f32, iant: u32) -> f32
     ensures { λ r. ⌜ r ≡ gainTerp gainmax foper fdesign iant ⌝ }
 {
     let fr = foper / fdesign;

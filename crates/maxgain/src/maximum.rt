@@ -1,17 +1,15 @@
-// `setmaxgain`: the maximum gain for the operating frequency, the parameters that it changes, and
-// its refusals.
+// `setmaxgain`: the maximum gain for the operating frequency, and the parameters that it changes.
 use crate::interpolation::gainterb;
 use crate::interpolation::gainterp;
-use model::angle::jant;
-use model::limits::in_band;
-use model::limits::type_ok;
-use model::range::all_finite;
-use model::range::is_between;
+use crate::refusal::refusal;
+use floats::range::is_between;
+use model::types::jant;
 ghost use mathlib.Core.Path.{_≡_};
 ghost use mathlib.Core.Bool.{true};
 ghost use Prim.Native.Nat.{_≤_};
 ghost use Rattle.model.specs.Limits.{inBand};
-ghost use Rattle.maxgain.specs.Maximum.{usable, designed, tuned, tunedSlots, byRatio, byMhz, asGiven, found, inputsFinite, bandOk, refused, graded, setMaxGain};
+ghost use Rattle.maxgain.specs.Maximum.{usable, designed, tuned, tunedSlots, byRatio, byMhz, asGiven, found, refused, graded, setMaxGain};
+ghost use Rattle.maxgain.specs.Refusals.{bandOk};
 
 // A maximum gain in dBi, or the number of a refusal.
 pub enum Answer {
@@ -26,13 +24,13 @@ pub struct Maximum {
 }
 
 // A gain before it is known to be finite, with the parameters that go with it.
-pub struct Found {
+pub(crate) struct Found {
     pub gain: f32,
     pub parm: [f32; 20],
 }
 
 // The operating and the design frequency in MHz.
-pub struct Tuning {
+pub(crate) struct Tuning {
     pub foper: f32,
     pub fdesign: f32,
 }
@@ -133,29 +131,6 @@ fn find(
     }
 }
 
-fn inputs_finite(
-    parm: [f32; 20],
-    gainmax: [f32; 6],
-    gainmaxb: [f32; 30],
-    mhz: f32,
-    design: f32,
-) -> bool
-    ensures { λ r. ⌜ r ≡ inputsFinite parm gainmax gainmaxb mhz design ⌝ }
-{
-    all_finite(&parm)
-        & all_finite(&gainmax)
-        & all_finite(&gainmaxb)
-        & numeric::float::is_finite(mhz)
-        & numeric::float::is_finite(design)
-}
-
-// Mode 2 alone has a band.
-fn band_ok(mode: u8, mhz: f32) -> bool
-    ensures { λ r. ⌜ r ≡ bandOk mode mhz ⌝ }
-{
-    if mode == 2 { in_band(mhz) } else { true }
-}
-
 fn refuse(number: u8, parm: [f32; 20]) -> Maximum
     ensures { λ r. ⌜ r ≡ refused number parm ⌝ }
 {
@@ -165,7 +140,7 @@ fn refuse(number: u8, parm: [f32; 20]) -> Maximum
     }
 }
 
-// What was found, or refusal 10 with the parameters as given.
+// What was found, or a refusal with the parameters as given.
 fn grade(f: Found, parm: [f32; 20]) -> Maximum
     ensures { λ r. ⌜ r ≡ graded f parm ⌝ }
 {
@@ -177,7 +152,7 @@ fn grade(f: Found, parm: [f32; 20]) -> Maximum
             parm: p,
         }
     } else {
-        refuse(10, parm)
+        refuse(answers::LEVEL, parm)
     }
 }
 
@@ -194,19 +169,10 @@ pub fn setmaxgain(
 ) -> Maximum
     ensures { λ r. ⌜ r ≡ setMaxGain mode parm gainmax gainmaxb mhz design ⌝ }
 {
-    if !inputs_finite(parm, gainmax, gainmaxb, mhz, design) {
-        return refuse(2, parm);
+    let number = refusal(mode, parm, gainmax, gainmaxb, mhz, design);
+    if 0 < number {
+        return refuse(number, parm);
     }
-    let iant = jant(parm[1]);
-    if !type_ok(iant) {
-        return refuse(3, parm);
-    }
-    if mode > 2 {
-        return refuse(4, parm);
-    }
-    if !band_ok(mode, mhz) {
-        return refuse(5, parm);
-    }
-    let f = find(mode, iant, parm, gainmax, gainmaxb, mhz, design);
+    let f = find(mode, jant(parm[1]), parm, gainmax, gainmaxb, mhz, design);
     grade(f, parm)
 }

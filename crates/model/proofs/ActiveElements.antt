@@ -12,7 +12,7 @@ use lib.ListN.{getD}
 use lib.Dec.{leb}
 use Rattle.model.specs.Counts.{elementOk, elementsOk, countOk, countsOk}
 use Rattle.model.specs.declared.record.Model.{Model}
-use Rattle.model.proofs.Tests.{both}
+use Rattle.floats.proofs.Tests.{both}
 
 element-below : (i : ℕ) → elementOk i ≡ true → i < 31
 unfolding elementOk

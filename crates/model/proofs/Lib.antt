@@ -1,8 +1,5 @@
-pub mod Tests
-pub mod WholeNumbers
-pub mod Naturals
+-- What crates above cite: of an accepted record (`few-active`, `active-named`, `active-below`), and of the flat table (`blank-length`,
+-- and its cells' places, `cell-0` to `cell-3`).
 pub mod ActiveElements
-pub mod Edges
-pub mod Filled
-pub mod Negation
-pub mod Opposites
+pub mod BlankTable
+pub mod Cells

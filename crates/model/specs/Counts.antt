@@ -5,8 +5,8 @@ use mathlib.Core.List.{List}
 use lib.ListN.{getD}
 use lib.Dec.{leb}
 use lib.Ieee.{Float, le}
-use Rattle.model.specs.Ops.{+0}
-use Rattle.model.specs.Literals.{sixtyFour}
+use Rattle.floats.specs.Ops.{+0}
+use Rattle.floats.specs.Literals.{sixtyFour}
 use Rattle.model.specs.declared.record.Model.{Model}
 
 -- at least 0 and at most 64

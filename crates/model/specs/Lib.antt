@@ -1,12 +1,6 @@
--- The definitions that contracts cite: one file for each subject.
-pub mod Ops
-pub mod Literals
-pub mod Decimals
-pub mod Ranges
+-- What document 01 says of the antenna record: the types (`typeOk` and the families), the limits of several calls (`inBand`), the counts
+-- (`countsOk`, refusal 6) and the lent table (`cell`, `tableSize`).
+pub mod Types
 pub mod Limits
-pub mod Answers
-pub mod Filled
-pub mod Angle
 pub mod Counts
 pub mod Table
-pub mod Opposite

@@ -3,7 +3,7 @@ use Prim.Native.Nat.{ℕ, _+_, _*_}
 use mathlib.Core.List.{List}
 use lib.ListN.{replicate}
 use lib.Ieee.{Float}
-use Rattle.model.specs.Ops.{+0}
+use Rattle.floats.specs.Ops.{+0}
 
 -- its floats
 abbrev pub tableSize : ℕ

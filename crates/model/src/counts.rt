@@ -11,14 +11,15 @@ pub fn count_ok(x: f32) -> bool
     0.0 <= x && x <= 64.0
 }
 
-pub fn element_ok(i: usize) -> bool
+// An element's number.
+fn element_ok(i: usize) -> bool
     ensures { λ r. ⌜ r ≡ elementOk i ⌝ }
 {
     1 <= i && i <= 30
 }
 
 // Whether entries 1 to n name elements.
-pub fn elements_ok(iek: [usize; 36], n: usize) -> bool
+fn elements_ok(iek: [usize; 36], n: usize) -> bool
     requires { ⌜ n ≤ 30 ⌝ }
     ensures { λ r. ⌜ r ≡ elementsOk iek n ⌝ }
 {
@@ -32,6 +33,7 @@ pub fn elements_ok(iek: [usize; 36], n: usize) -> bool
     ok
 }
 
+// Whether a record's loops may run: its float counts, and the list of its active elements.
 pub fn counts_ok(m: Model) -> bool
     ensures { λ r. ⌜ r ≡ countsOk m ⌝ }
 {

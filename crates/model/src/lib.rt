@@ -1,8 +1,10 @@
-// What the layers of antenna gain share: the antenna record, Fortran's roundings, ranges and limits,
-// the table that set-up fills, and the counts that a record's loops run by.
-pub mod angle;
+// The antenna record that set-up, search and gain hand on by value, and what they all read of it.
+// Assumes nothing of a record that comes from outside: `counts_ok` says for every one whether the
+// loops below may run by its counts (`countsOk`, refusal 6 of document 01); `type_ok` and
+// `in_band` say whether a type and a frequency are legal ones (`typeOk`, `inBand`). The lent
+// table's layout stands in `table` alone (`cell`, `tableSize`).
 pub mod counts;
 pub mod limits;
-pub mod range;
 pub mod record;
 pub mod table;
+pub mod types;

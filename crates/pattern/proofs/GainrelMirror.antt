@@ -8,15 +8,16 @@ use native.Mathlib.Omega.{arith}
 use borrow.Author.Tests.{eqb-true, ne-eqb}
 use lib.Dec.{eqb}
 use lib.Ieee.{Float}
-use Rattle.model.specs.Ops.{+0, count}
-use Rattle.model.specs.Angle.{ifixOf}
+use Rattle.floats.specs.Ops.{+0, count}
+use Rattle.floats.specs.Rounding.{ifixOf}
+use Rattle.model.specs.Types.{crossedType}
 use Rattle.model.specs.declared.record.Direction.{Direction}
 use Rattle.model.specs.declared.record.Model.{Model}
 use Rattle.pattern.specs.Mirror.{mirror}
 use Rattle.pattern.specs.Azimuth.{quadrantOf, directionOf, behindScreen}
 use Rattle.pattern.specs.Gainrel.{factorsIn, gainIn, gainRel}
 use Rattle.pattern.proofs.Mirror.{gain1-mirror, gain2-mirror, gain3-mirror, gain4-mirror, gain5-mirror, gain6-mirror}
-use Rattle.pattern.proofs.Fold.{direction-mirror, screen-mirror}
+use Rattle.pattern.proofs.azimuth.Fold.{direction-mirror, screen-mirror}
 
 -- equal where the test holds, and equal where it does not
 either : (i n : ℕ) {x x' y y' : Float} → (i ≡ n → x ≡ x') → y ≡ y' → cond (eqb i n) x y ≡ cond (eqb i n) x' y'
@@ -28,7 +29,7 @@ either i n {x} {x'} {y} {y'} p q = go (eqb i n) refl
 
 module _ (m : Model) (six : m .iant ≤ 6) (z : m .iant ≤ 4 → m .constants .sl ≡ +0) (table : List Float) where
   gainIn-mirror : (iu : ℕ) (d : Direction) (behind : Bool) → gainIn m table iu (mirror d) behind ≡ gainIn m table iu d behind
-  unfolding gainIn
+  unfolding gainIn crossedType
   gainIn-mirror iu d behind =
       let i = m .iant in
       let k = m .constants in

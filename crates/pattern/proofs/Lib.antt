@@ -1,12 +1,5 @@
--- What the proofs share, and the laws that crates above cite.
-mod Degrees
-mod Cells
-mod Parts
-mod RhombicByParts
-mod CrossedByParts
-mod Untyped
-pub mod Mirror
-pub mod Fold
+-- By module; here the mirror law, which goes through all of them: direction by direction, and over the whole azimuths
+-- (`gainRel-mirror`, with `unslewed`, which crates above cite).
+mod Mirror
 pub mod GainrelMirror
-pub mod TableStart
 pub mod Slew

@@ -4,8 +4,8 @@ use lib.IntN.{pos}
 use lib.Ieee.{Float, binary32, mul, ofBits, ofInt, toSigned}
 use Rattle.numeric.specs.Sine.{sine}
 use Rattle.numeric.proofs.Laws.{sine-zero}
-use Rattle.model.specs.Ops.{_⊗_, +0, +0-is, zero±}
-use Rattle.model.specs.Literals.{q1}
+use Rattle.floats.specs.Ops.{_⊗_, +0, +0-is, zero±}
+use Rattle.floats.specs.Literals.{q1}
 use mathlib.Core.Bool.{false}
 
 no-angle : ofInt binary32 (pos 0) ⊗ q1 ≡ zero± false

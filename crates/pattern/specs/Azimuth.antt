@@ -6,29 +6,11 @@ use lib.IntN.{pos, _-ℤ_}
 use lib.Signed.{leZ}
 use lib.ListN.{getD}
 use lib.Ieee.{Float, nan, binary32, neg, rem, lt, le, toSigned}
-use Rattle.model.specs.Ops.{_⊖_, +0}
-use Rattle.model.specs.Literals.{literal}
-use Rattle.model.specs.Angle.{clamp90, ifixOf}
+use Rattle.floats.specs.Ops.{_⊖_, +0}
+use Rattle.floats.specs.Rounding.{clamp90, ifixOf}
 use Rattle.model.specs.declared.record.Direction.{Direction}
+use Rattle.pattern.specs.Literals.{deg90, deg180, deg270, deg360, deg450, deg540}
 use Rattle.pattern.specs.declared.azimuth.Quadrant.{Quadrant}
-
-abbrev pub deg90 : Float
-deg90 = literal 0x42b40000
-
-abbrev pub deg180 : Float
-deg180 = literal 0x43340000
-
-abbrev pub deg270 : Float
-deg270 = literal 0x43870000
-
-abbrev pub deg360 : Float
-deg360 = literal 0x43b40000
-
-abbrev pub deg450 : Float
-deg450 = literal 0x43e10000
-
-abbrev pub deg540 : Float
-deg540 = literal 0x44070000
 
 -- `v % 360.0`
 abbrev pub turned : Float → Float

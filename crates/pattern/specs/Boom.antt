@@ -1,10 +1,11 @@
--- `gainrel`'s arms 5 and 6, the log-periodic antennas, step by step. Definitions only.
+-- `gainrel`'s arms 5 and 6, the log-periodic antennas: the sums over the active elements, and the gain from them. Definitions only.
 use Prim.Native.Nat.{ℕ, zero, suc}
+use mathlib.Core.Bool.{Bool, true, false, cond}
 use mathlib.Core.List.{List}
 use lib.ListN.{getD}
 use lib.Ieee.{Float, nan, neg}
-use Rattle.model.specs.Ops.{_⊕_, _⊖_, _⊗_, _⊘_, +0}
-use Rattle.model.specs.Literals.{one, q1}
+use Rattle.floats.specs.Ops.{_⊕_, _⊖_, _⊗_, _⊘_, +0}
+use Rattle.floats.specs.Literals.{one, q1}
 use Rattle.model.specs.Table.{cell}
 use Rattle.model.specs.declared.record.Constants.{Constants}
 use Rattle.model.specs.declared.record.Elements.{Elements}
@@ -12,7 +13,10 @@ use Rattle.model.specs.declared.record.Direction.{Direction}
 use Rattle.model.specs.declared.record.Entry.{Entry}
 use Rattle.numeric.specs.Sine.{sine, cosine}
 use Rattle.numeric.specs.Root.{sqrtOf}
+use Rattle.pattern.specs.declared.boom.Element.{Element}
 use Rattle.pattern.specs.declared.boom.Field.{Field}
+
+-- ---- what the loops read
 
 -- ww1[iu][i] to ww4[iu][i], in the lent table
 unfoldable pub entryAt : List Float → ℕ → ℕ → Entry
@@ -24,71 +28,95 @@ entryAt table iu i =
       ww4 = getD table (cell 3 iu i) nan;
     }
 
-abbrev pub noField : Field
-noField = record { str = +0; sti = +0; sfr = +0; sfi = +0 }
+-- rl[i], rim[i], fi[i], x[i] and y[i]
+abbrev pub elementAt : Elements → ℕ → Element
+elementAt e i =
+    record {
+      rl = getD (e .rl) i nan;
+      rim = getD (e .rim) i nan;
+      fi = getD (e .fi) i nan;
+      x = getD (e .x) i nan;
+      y = getD (e .y) i nan;
+    }
 
--- ---- horizontal log-periodic
-
--- one turn of the loop, for element i, with what is set before it; w are the element's ground factors
-unfoldable pub across : Constants → Elements → Direction → ℕ → Entry → Field → Field
-across k e d i w s =
+-- gamma: the phase for each metre of x or y
+unfoldable pub gammaOf : Constants → Direction → Float
+gammaOf k d =
     let a12 = d .b1 ⊗ d .b0 in
     let b3 = neg a12 ⊗ k .costh ⊕ d .a0 ⊗ k .sinth in
-    let gamma = k .beta ⊗ b3 ⊘ k .costh in
-    let df = one ⊖ d .b0 ⊗ d .b0 ⊗ d .a1 ⊗ d .a1 in
-    let fg = k .beta ⊗ getD (e .rl) i nan in
-    let ft = (cosine (fg ⊗ d .b0 ⊗ d .a1) ⊖ cosine fg) ⊘ df in
-    let aw = sine (gamma ⊗ getD (e .x) i nan ⊕ getD (e .fi) i nan ⊗ q1) in
-    let bw = cosine (gamma ⊗ getD (e .x) i nan ⊕ getD (e .fi) i nan ⊗ q1) in
+    k .beta ⊗ b3 ⊘ k .costh
+
+-- df, of type 5
+unfoldable pub acrossBelow : Direction → Float
+acrossBelow d = one ⊖ d .b0 ⊗ d .b0 ⊗ d .a1 ⊗ d .a1
+
+-- ---- one element
+
+-- ft of type 5: one horizontal element's own pattern, fg its electrical half length
+unfoldable pub acrossFactor : Float → Float → Direction → Float
+acrossFactor fg df d = (cosine (fg ⊗ d .b0 ⊗ d .a1) ⊖ cosine fg) ⊘ df
+
+-- ft of type 6: one vertical element's own pattern
+unfoldable pub uprightFactor : Float → Direction → Float
+uprightFactor fg d = (cosine (fg ⊗ d .a0) ⊖ cosine fg) ⊘ d .b0
+
+-- type 5: an element's field added to the sums; fti is its current times its own pattern
+unfoldable pub addAcross : Float → Float → Entry → Field → Field
+addAcross fti phase w s =
+    let aw = sine phase in
+    let bw = cosine phase in
     let wr = aw ⊗ w .ww1 ⊖ bw ⊗ w .ww2 in
     let wi = bw ⊗ w .ww1 ⊕ aw ⊗ w .ww2 in
     let ur = bw ⊗ w .ww3 ⊖ aw ⊗ w .ww4 in
     let ui = aw ⊗ w .ww3 ⊕ bw ⊗ w .ww4 in
-    record {
-      str = s .str ⊕ getD (e .rim) i nan ⊗ ft ⊗ wr;
-      sti = s .sti ⊕ getD (e .rim) i nan ⊗ ft ⊗ wi;
-      sfr = s .sfr ⊕ getD (e .rim) i nan ⊗ ft ⊗ ur;
-      sfi = s .sfi ⊕ getD (e .rim) i nan ⊗ ft ⊗ ui;
-    }
+    record { str = s .str ⊕ fti ⊗ wr; sti = s .sti ⊕ fti ⊗ wi; sfr = s .sfr ⊕ fti ⊗ ur; sfi = s .sfi ⊕ fti ⊗ ui }
 
--- the sums after the active elements 1 to n
-unfoldable pub acrossTo : Constants → Elements → List Float → ℕ → Direction → ℕ → Field
-acrossTo k e table iu d zero = noField
-acrossTo k e table iu d (suc n) =
+-- type 6: the same, of the vertical field alone
+unfoldable pub addUpright : Float → Float → Entry → Field → Field
+addUpright fti phase w s =
+    let aw = sine phase in
+    let bw = cosine phase in
+    let ur = bw ⊗ w .ww1 ⊖ aw ⊗ w .ww2 in
+    let ui = bw ⊗ w .ww2 ⊕ aw ⊗ w .ww1 in
+    record { str = s .str; sti = s .sti; sfr = s .sfr ⊕ fti ⊗ ur; sfi = s .sfi ⊕ fti ⊗ ui }
+
+-- one turn of the loop, of type 6 where the elements are upright and else of type 5; w are the element's ground factors
+unfoldable pub added : Bool → Float → Float → Float → Direction → Element → Entry → Field → Field
+added upright beta gamma df d el w s =
+    let fg = beta ⊗ el .rl in
+    cond upright
+    (addUpright (el .rim ⊗ uprightFactor fg d) (gamma ⊗ el .y ⊕ el .fi ⊗ q1) w s)
+    (addAcross (el .rim ⊗ acrossFactor fg df d) (gamma ⊗ el .x ⊕ el .fi ⊗ q1) w s)
+
+-- ---- the sums
+
+abbrev pub noField : Field
+noField = record { str = +0; sti = +0; sfr = +0; sfi = +0 }
+
+-- after the active elements 1 to n
+unfoldable pub fieldTo : Bool → Constants → Elements → List Float → ℕ → Direction → ℕ → Field
+fieldTo upright k e table iu d zero = noField
+fieldTo upright k e table iu d (suc n) =
     let i = getD (e .iek) (suc n) 0 in
-    across k e d i (entryAt table iu i) (acrossTo k e table iu d n)
+    added upright (k .beta) (gammaOf k d) (acrossBelow d) d (elementAt e i) (entryAt table iu i) (fieldTo upright k e table iu d n)
 
-unfoldable pub gain5 : Constants → Elements → List Float → ℕ → Direction → Float
-gain5 k e table iu d =
-    let s = acrossTo k e table iu d (e .nat) in
+-- ---- the gain
+
+-- type 5's from the sums: vertical and horizontal field
+unfoldable pub bothFields : Field → Direction → Float
+bothFields s d =
     let etheta = sqrtOf (s .str ⊗ s .str ⊕ s .sti ⊗ s .sti) ⊗ d .a1 ⊗ d .a0 in
     let efi = neg (sqrtOf (s .sfr ⊗ s .sfr ⊕ s .sfi ⊗ s .sfi)) ⊗ d .b1 in
     sqrtOf (etheta ⊗ etheta ⊕ efi ⊗ efi)
 
--- ---- vertical log-periodic
+-- and type 6's
+unfoldable pub oneField : Field → Float
+oneField s = sqrtOf (s .sfr ⊗ s .sfr ⊕ s .sfi ⊗ s .sfi)
 
--- one turn of the loop, for element i, with what is set before it
-unfoldable pub upright : Constants → Elements → Direction → ℕ → Entry → Field → Field
-upright k e d i w s =
-    let a12 = d .b1 ⊗ d .b0 in
-    let b3 = neg a12 ⊗ k .costh ⊕ d .a0 ⊗ k .sinth in
-    let gamma = k .beta ⊗ b3 ⊘ k .costh in
-    let fg = k .beta ⊗ getD (e .rl) i nan in
-    let ft = (cosine (fg ⊗ d .a0) ⊖ cosine fg) ⊘ d .b0 in
-    let aw = sine (gamma ⊗ getD (e .y) i nan ⊕ getD (e .fi) i nan ⊗ q1) in
-    let bw = cosine (gamma ⊗ getD (e .y) i nan ⊕ getD (e .fi) i nan ⊗ q1) in
-    let ur = bw ⊗ w .ww1 ⊖ aw ⊗ w .ww2 in
-    let ui = bw ⊗ w .ww2 ⊕ aw ⊗ w .ww1 in
-    let fti = getD (e .rim) i nan ⊗ ft in
-    record { str = s .str; sti = s .sti; sfr = s .sfr ⊕ fti ⊗ ur; sfi = s .sfi ⊕ fti ⊗ ui }
+-- horizontal log-periodic
+unfoldable pub gain5 : Constants → Elements → List Float → ℕ → Direction → Float
+gain5 k e table iu d = bothFields (fieldTo false k e table iu d (e .nat)) d
 
-unfoldable pub uprightTo : Constants → Elements → List Float → ℕ → Direction → ℕ → Field
-uprightTo k e table iu d zero = noField
-uprightTo k e table iu d (suc n) =
-    let i = getD (e .iek) (suc n) 0 in
-    upright k e d i (entryAt table iu i) (uprightTo k e table iu d n)
-
+-- vertical log-periodic
 unfoldable pub gain6 : Constants → Elements → List Float → ℕ → Direction → Float
-gain6 k e table iu d =
-    let s = uprightTo k e table iu d (e .nat) in
-    sqrtOf (s .sfr ⊗ s .sfr ⊕ s .sfi ⊗ s .sfi)
+gain6 k e table iu d = oneField (fieldTo true k e table iu d (e .nat))

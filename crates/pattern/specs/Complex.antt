@@ -1,6 +1,6 @@
--- Complex numbers, in the order of operations of `gainrel`.
+-- Complex numbers, in the order of operations of `gainrel`. Definitions only.
 use lib.Ieee.{Float}
-use Rattle.model.specs.Ops.{_⊕_, _⊖_, _⊗_}
+use Rattle.floats.specs.Ops.{_⊕_, _⊖_, _⊗_}
 use Rattle.pattern.specs.declared.complex.Complex.{Complex}
 
 unfoldable pub times : Complex → Complex → Complex

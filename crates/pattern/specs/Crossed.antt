@@ -1,20 +1,17 @@
--- `gainrel`'s arm for types 8 and 9, the quadrant antenna and the crossed dipoles, step by step.
+-- `gainrel`'s arm for types 8 and 9, the quadrant antenna and the crossed dipoles, step by step. Definitions only.
 use Prim.Native.Nat.{ℕ}
 use mathlib.Core.Bool.{cond}
 use lib.Dec.{eqb}
 use lib.Ieee.{Float, neg}
-use Rattle.model.specs.Ops.{_⊕_, _⊖_, _⊗_, _⊘_, +0}
+use Rattle.floats.specs.Ops.{_⊕_, _⊖_, _⊗_, _⊘_, +0}
 use Rattle.numeric.specs.Sine.{sine, cosine}
 use Rattle.numeric.specs.Root.{sqrtOf}
 use Rattle.numeric.specs.Float.{mag}
-use Rattle.model.specs.Literals.{literal, one}
+use Rattle.floats.specs.Literals.{one}
+use Rattle.pattern.specs.Literals.{cos45}
 use Rattle.model.specs.declared.record.Constants.{Constants}
 use Rattle.model.specs.declared.record.Direction.{Direction}
 use Rattle.model.specs.declared.record.Factors.{Factors}
-
--- 0.707, which the source has for the cosine of 45 degrees
-abbrev pub cos45 : Float
-cos45 = literal 0x3f34fdf4
 
 -- the quadrant antenna is type 8
 unfoldable pub gain89 : ℕ → Constants → Factors → Direction → Float

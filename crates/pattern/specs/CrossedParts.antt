@@ -1,14 +1,14 @@
--- The parts of the pattern of types 8 and 9 that the code computes one by one. `specs/Crossed.antt` has the rule whole.
+-- The code's steps for types 8 and 9, proved equal to the rule of `specs/Crossed.antt` (`crossed-whole`). Definitions only.
 use Prim.Native.Nat.{ℕ}
 use mathlib.Core.Bool.{cond}
 use lib.Dec.{eqb}
 use lib.Ieee.{Float, neg}
-use Rattle.model.specs.Ops.{_⊕_, _⊖_, _⊗_, _⊘_, +0}
+use Rattle.floats.specs.Ops.{_⊕_, _⊖_, _⊗_, _⊘_, +0}
 use Rattle.numeric.specs.Sine.{sine, cosine}
 use Rattle.numeric.specs.Root.{sqrtOf}
 use Rattle.numeric.specs.Float.{mag}
-use Rattle.model.specs.Literals.{one}
-use Rattle.pattern.specs.Crossed.{cos45}
+use Rattle.floats.specs.Literals.{one}
+use Rattle.pattern.specs.Literals.{cos45}
 use Rattle.pattern.specs.Complex.{times, plus, scaled, powerOf}
 use Rattle.model.specs.declared.record.Constants.{Constants}
 use Rattle.model.specs.declared.record.Direction.{Direction}

@@ -1,12 +1,13 @@
 -- `gainrel`: the relative gain at elevation u and azimuth v, in degrees. Definitions only.
 use Prim.Native.Nat.{ℕ}
-use mathlib.Core.Bool.{Bool, _||_, cond}
+use mathlib.Core.Bool.{Bool, cond}
 use mathlib.Core.List.{List}
 use lib.Dec.{eqb}
 use lib.ListN.{getD}
 use lib.Ieee.{Float, nan}
-use Rattle.model.specs.Ops.{+0}
-use Rattle.model.specs.Angle.{ifixOf}
+use Rattle.floats.specs.Ops.{+0}
+use Rattle.floats.specs.Rounding.{ifixOf}
+use Rattle.model.specs.Types.{crossedType}
 use Rattle.model.specs.declared.record.Ground.{Ground}
 use Rattle.model.specs.declared.record.Factors.{Factors}
 use Rattle.model.specs.declared.record.Direction.{Direction}
@@ -39,7 +40,7 @@ gainIn m table iu d behind =
     (cond (eqb (m .iant) 5) (gain5 k e table iu d)
     (cond (eqb (m .iant) 6) (gain6 k e table iu d)
     (cond (eqb (m .iant) 7) (gain7 k w d)
-    (cond (eqb (m .iant) 8 || eqb (m .iant) 9) (gain89 (m .iant) k w d)
+    (cond (crossedType (m .iant)) (gain89 (m .iant) k w d)
     +0)))))))
 
 unfoldable pub gainRel : Model → List Float → Float → Float → Float

@@ -1,14 +1,15 @@
--- The definitions that contracts cite: one file for each subject.
+-- The source's `gainrel` (`gainRel`): its direction, and the arms by type.
+pub mod Literals
 pub mod Azimuth
 pub mod Rows
 pub mod Dipoles
-pub mod DipoleParts
 pub mod Boom
-pub mod BoomParts
-pub mod Complex
 pub mod Rhombic
-pub mod RhombicParts
 pub mod Crossed
-pub mod CrossedParts
 pub mod Gainrel
+-- The mirror image of a direction, for the mirror law.
 pub mod Mirror
+-- The code's steps, proved equal to the arms above: a reader of the promises may pass them by.
+pub mod Complex
+pub mod RhombicParts
+pub mod CrossedParts

@@ -1,9 +1,9 @@
--- `gainrel`'s arm for type 7, the horizontal rhombic, step by step.
+-- `gainrel`'s arm for type 7, the horizontal rhombic, step by step. Definitions only.
 use lib.Ieee.{Float}
-use Rattle.model.specs.Ops.{_⊕_, _⊖_, _⊗_, _⊘_}
+use Rattle.floats.specs.Ops.{_⊕_, _⊖_, _⊗_, _⊘_}
 use Rattle.numeric.specs.Sine.{sine, cosine}
 use Rattle.numeric.specs.Root.{sqrtOf}
-use Rattle.model.specs.Literals.{one, thirty}
+use Rattle.floats.specs.Literals.{one, thirty}
 use Rattle.model.specs.declared.record.Constants.{Constants}
 use Rattle.model.specs.declared.record.Direction.{Direction}
 use Rattle.model.specs.declared.record.Factors.{Factors}

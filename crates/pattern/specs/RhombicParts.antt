@@ -1,9 +1,9 @@
--- The parts of type 7's pattern that the code computes one by one. `specs/Rhombic.antt` has the rule whole.
+-- The code's steps for type 7, proved equal to the rule of `specs/Rhombic.antt` (`rhombic-whole`). Definitions only.
 use lib.Ieee.{Float}
-use Rattle.model.specs.Ops.{_⊕_, _⊖_, _⊗_, _⊘_}
+use Rattle.floats.specs.Ops.{_⊕_, _⊖_, _⊗_, _⊘_}
 use Rattle.numeric.specs.Sine.{sine, cosine}
 use Rattle.numeric.specs.Root.{sqrtOf}
-use Rattle.model.specs.Literals.{one, thirty}
+use Rattle.floats.specs.Literals.{one, thirty}
 use Rattle.pattern.specs.Complex.{times, powerOf}
 use Rattle.model.specs.declared.record.Constants.{Constants}
 use Rattle.model.specs.declared.record.Direction.{Direction}

@@ -1,8 +1,8 @@
 -- The sums over a row of dipoles that `gainrel`'s arms 1 to 4 make. Definitions only.
 use Prim.Native.Nat.{ℕ, zero, suc}
 use lib.Ieee.{Float, toSigned}
-use Rattle.model.specs.Ops.{_⊕_, _⊗_, +0, count}
-use Rattle.model.specs.Angle.{turnsOf}
+use Rattle.floats.specs.Ops.{_⊕_, _⊗_, +0, count}
+use Rattle.floats.specs.Rounding.{turnsOf}
 use Rattle.numeric.specs.Sine.{sine, cosine}
 
 -- how many il there are in `0..x as i32 + 1`

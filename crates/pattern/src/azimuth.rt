@@ -25,7 +25,7 @@ fn is_past(low: f32, v: f32, high: f32) -> bool
 fn in_first(v: f32) -> bool
     ensures { λ r. ⌜ r ≡ inFirst v ⌝ }
 {
-    model::range::is_between(v, 0.0, 90.0) | model::range::is_between(v, 360.0, 450.0)
+    floats::range::is_between(v, 0.0, 90.0) | floats::range::is_between(v, 360.0, 450.0)
 }
 
 // The second quadrant, also one turn further.
@@ -58,13 +58,13 @@ fn back_from_180(x: f32) -> usize
 }
 
 // The azimuth's quadrant; all beyond the ranges is in the fourth.
-pub fn quadrant_of(v: f32) -> Quadrant
+pub(crate) fn quadrant_of(v: f32) -> Quadrant
     ensures { λ r. ⌜ r ≡ quadrantOf v ⌝ }
     ensures { λ r. ⌜ r .jv ≤ 90 ⌝ }
 {
     if in_first(v) {
         return Quadrant {
-            jv: model::angle::ifix(v % 360.0),
+            jv: floats::rounding::ifix(v % 360.0),
             an: false,
             bn: false,
         };
@@ -78,13 +78,13 @@ pub fn quadrant_of(v: f32) -> Quadrant
     }
     if in_third(v) {
         return Quadrant {
-            jv: model::angle::ifix(v - 180.0),
+            jv: floats::rounding::ifix(v - 180.0),
             an: true,
             bn: true,
         };
     }
     Quadrant {
-        jv: model::angle::ifix(360.0 - v),
+        jv: floats::rounding::ifix(360.0 - v),
         an: true,
         bn: false,
     }
@@ -98,7 +98,12 @@ fn with_sign(negated: bool, x: f32) -> f32
 }
 
 // The direction by the tables a and b of sines and cosines.
-pub fn direction_of<'a>(a: &'a [f32; 91], b: &'a [f32; 91], iu: usize, q: Quadrant) -> Direction
+pub(crate) fn direction_of<'a>(
+    a: &'a [f32; 91],
+    b: &'a [f32; 91],
+    iu: usize,
+    q: Quadrant,
+) -> Direction
     requires { ⌜ (iu ≤ 90) × (q .jv ≤ 90) ⌝ }
     ensures { λ r. ⌜ r ≡ directionOf (now (a .entry)) (now (b .entry)) iu q ⌝ }
 {
@@ -112,7 +117,7 @@ pub fn direction_of<'a>(a: &'a [f32; 91], b: &'a [f32; 91], iu: usize, q: Quadra
 }
 
 // Whether type 1's screen lies between the dipoles and the direction.
-pub fn behind_screen(v: f32) -> bool
+pub(crate) fn behind_screen(v: f32) -> bool
     ensures { λ r. ⌜ r ≡ behindScreen v ⌝ }
 {
     let kv = numeric::float::to_i32(v % 360.0);

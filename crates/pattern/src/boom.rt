@@ -3,16 +3,26 @@ use model::record::Constants;
 use model::record::Direction;
 use model::record::Elements;
 use model::record::Entry;
+use model::table::PART;
+use model::table::ROW;
 ghost use mathlib.Core.Path.{_≡_};
 ghost use mathlib.Core.Bool.{true};
 ghost use Prim.Native.Nat.{_≤_};
 ghost use lib.ListN.{length};
 ghost use Rattle.model.specs.Table.{tableSize};
 ghost use Rattle.model.specs.Counts.{elementsOk};
-ghost use Rattle.pattern.specs.BoomParts.{gammaOf, acrossBelow, acrossFactor, uprightFactor, addAcross, addUpright};
-ghost use Rattle.pattern.specs.Boom.{entryAt, gain5, gain6};
+ghost use Rattle.pattern.specs.Boom.{entryAt, gammaOf, acrossBelow, acrossFactor, uprightFactor, addAcross, addUpright, added, fieldTo, bothFields, oneField};
 
 const Q1: f32 = 3.1415927 / 180.0;
+
+// One element: half length, current, phase, and its place by type 5 and by type 6.
+pub struct Element {
+    pub rl: f32,
+    pub rim: f32,
+    pub fi: f32,
+    pub x: f32,
+    pub y: f32,
+}
 
 // The field's sums: vertical (theta) and horizontal (phi), real and imaginary.
 pub struct Field {
@@ -27,16 +37,16 @@ fn entry_at(table: &[f32], iu: usize, i: usize) -> Entry
     requires { ⌜ (iu ≤ 90) × (i ≤ 30) × (tableSize ≤ length (now table)) ⌝ }
     ensures { λ r. ⌜ r ≡ entryAt (now (table .entry)) iu i ⌝ }
 {
-    let at = iu * 31 + i;
+    let at = iu * ROW + i;
     Entry {
         ww1: table[at],
-        ww2: table[at + 2821],
-        ww3: table[at + 5642],
-        ww4: table[at + 8463],
+        ww2: table[at + PART],
+        ww3: table[at + 2 * PART],
+        ww4: table[at + 3 * PART],
     }
 }
 
-// The phase per metre along the boom.
+// The phase for each metre of x or y.
 fn gamma_of(k: Constants, d: Direction) -> f32
     ensures { λ r. ⌜ r ≡ gammaOf k d ⌝ }
 {
@@ -99,10 +109,39 @@ fn add_upright(fti: f32, phase: f32, w: Entry, s: Field) -> Field
     }
 }
 
-// Horizontal log-periodic.
-pub fn gain_5(k: Constants, e: Elements, table: &[f32], iu: usize, d: Direction) -> f32
+// One element's field added to the sums, type 6's where the elements are upright and else type 5's.
+fn add_element(
+    upright: bool,
+    beta: f32,
+    gamma: f32,
+    df: f32,
+    d: Direction,
+    el: Element,
+    w: Entry,
+    s: Field,
+) -> Field
+    ensures { λ r. ⌜ r ≡ added upright beta gamma df d el w s ⌝ }
+{
+    let fg = beta * el.rl;
+    if upright {
+        let fti = el.rim * upright_factor(fg, d);
+        return add_upright(fti, gamma * el.y + el.fi * Q1, w, s);
+    }
+    let fti = el.rim * across_factor(fg, df, d);
+    add_across(fti, gamma * el.x + el.fi * Q1, w, s)
+}
+
+// The sums over the active elements.
+pub(crate) fn field_of(
+    upright: bool,
+    k: Constants,
+    e: Elements,
+    table: &[f32],
+    iu: usize,
+    d: Direction,
+) -> Field
     requires { ⌜ (e .nat ≤ 30) × (elementsOk (e .iek) (e .nat) ≡ true) × (iu ≤ 90) × (tableSize ≤ length (now table)) ⌝ }
-    ensures { λ r. ⌜ r ≡ gain5 k e (now (table .entry)) iu d ⌝ }
+    ensures { λ r. ⌜ r ≡ fieldTo upright k e (now (table .entry)) iu d (e .nat) ⌝ }
 {
     let nat = e.nat;
     let gamma = gamma_of(k, d);
@@ -116,36 +155,31 @@ pub fn gain_5(k: Constants, e: Elements, table: &[f32], iu: usize, d: Direction)
     let mut n: usize = 0;
     while n < nat {
         let i = e.iek[n + 1];
-        let w = entry_at(table, iu, i);
-        let ft = across_factor(k.beta * e.rl[i], df, d);
-        s = add_across(e.rim[i] * ft, gamma * e.x[i] + e.fi[i] * Q1, w, s);
+        let el = Element {
+            rl: e.rl[i],
+            rim: e.rim[i],
+            fi: e.fi[i],
+            x: e.x[i],
+            y: e.y[i],
+        };
+        s = add_element(upright, k.beta, gamma, df, d, el, entry_at(table, iu, i), s);
         n += 1;
     }
+    s
+}
+
+// Type 5's gain from the sums.
+pub(crate) fn both_fields(s: Field, d: Direction) -> f32
+    ensures { λ r. ⌜ r ≡ bothFields s d ⌝ }
+{
     let etheta = numeric::root::sqrt(s.str * s.str + s.sti * s.sti) * d.a1 * d.a0;
     let efi = -numeric::root::sqrt(s.sfr * s.sfr + s.sfi * s.sfi) * d.b1;
     numeric::root::sqrt(etheta * etheta + efi * efi)
 }
 
-// Vertical log-periodic.
-pub fn gain_6(k: Constants, e: Elements, table: &[f32], iu: usize, d: Direction) -> f32
-    requires { ⌜ (e .nat ≤ 30) × (elementsOk (e .iek) (e .nat) ≡ true) × (iu ≤ 90) × (tableSize ≤ length (now table)) ⌝ }
-    ensures { λ r. ⌜ r ≡ gain6 k e (now (table .entry)) iu d ⌝ }
+// Type 6's gain from the sums.
+pub(crate) fn one_field(s: Field) -> f32
+    ensures { λ r. ⌜ r ≡ oneField s ⌝ }
 {
-    let nat = e.nat;
-    let gamma = gamma_of(k, d);
-    let mut s = Field {
-        str: 0.0,
-        sti: 0.0,
-        sfr: 0.0,
-        sfi: 0.0,
-    };
-    let mut n: usize = 0;
-    while n < nat {
-        let i = e.iek[n + 1];
-        let w = entry_at(table, iu, i);
-        let ft = upright_factor(k.beta * e.rl[i], d);
-        s = add_upright(e.rim[i] * ft, gamma * e.y[i] + e.fi[i] * Q1, w, s);
-        n += 1;
-    }
     numeric::root::sqrt(s.sfr * s.sfr + s.sfi * s.sfi)
 }

@@ -72,7 +72,7 @@ pub(crate) fn horizontal(c: Crossed, f: Complex, w5: f32, w6: f32) -> Complex
 }
 
 // `gainrel`'s arm for 8, the quadrant antenna, and 9, the crossed dipoles.
-pub fn gain_89(iant: u32, k: Constants, w: Factors, d: Direction) -> f32
+pub(crate) fn gain_89(iant: u32, k: Constants, w: Factors, d: Direction) -> f32
     ensures { λ r. ⌜ r ≡ gain89 iant k w d ⌝ }
 {
     let c = dipoles(k, d);

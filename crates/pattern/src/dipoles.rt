@@ -4,14 +4,13 @@ use model::record::Direction;
 use model::record::Factors;
 ghost use mathlib.Core.Path.{_≡_};
 ghost use Rattle.pattern.specs.Rows.{ilCount};
-ghost use Rattle.pattern.specs.DipoleParts.{dipoleFactor, rowFactor, groundFactor, screenReflection, screenFront, screenFactor, reflectorFactor, slewed};
-ghost use Rattle.pattern.specs.Dipoles.{gain1, gain2, gain3, gain4};
+ghost use Rattle.pattern.specs.Dipoles.{dipoleFactor, rowFactor, groundFactor, arrayGain, screenReflection, screenFront, screenFactor, reflectorFactor, gain1, gain2, gain3, gain4};
 
 // How many il there are in 0..x as i32 + 1.
 fn il_count_of(x: f32) -> u32
     ensures { λ r. ⌜ r ≡ ilCount x ⌝ }
 {
-    model::angle::turns(numeric::float::to_i32(x))
+    floats::rounding::turns(numeric::float::to_i32(x))
 }
 
 // The factor of n dipoles in a row, g being the phase from one to the next.
@@ -86,57 +85,48 @@ fn reflector_factor(k: Constants, d: Direction) -> f32
     numeric::root::sqrt(numeric::float::abs(1.0 + k.q2 * k.q2 + 2.0 * k.q2 * c))
 }
 
-// The phase between neighbours in a row across the boresight, slewed.
-fn slew(pfb: f32, sl: f32, d: Direction) -> f32
-    ensures { λ r. ⌜ r ≡ slewed pfb sl d ⌝ }
+// The arms' product: p and c are the dipole's, z2 what stands behind or beside it, pfb the phase
+// from one dipole of the row to the next before the slew, x the row's last il.
+fn array_gain(w: Factors, d: Direction, p: f32, c: f32, z2: f32, pfb: f32, sl: f32, x: f32) -> f32
+    ensures { λ r. ⌜ r ≡ arrayGain w d p c z2 pfb sl x ⌝ }
 {
-    pfb * (d.a1 - sl)
+    let z1 = dipole_factor(p, c, d);
+    let asl = d.a1 - sl;
+    let z3 = row_factor(pfb * asl, il_count_of(x));
+    let z4 = ground_factor(w, d);
+    z1 * z2 * z3 * z4
 }
 
 // Multiband aperiodic reflector dipole array.
-pub fn gain_1(k: Constants, w: Factors, d: Direction, behind: bool) -> f32
+pub(crate) fn gain_1(k: Constants, w: Factors, d: Direction, behind: bool) -> f32
     ensures { λ r. ⌜ r ≡ gain1 k w d behind ⌝ }
 {
-    let z1 = dipole_factor(k.p11, k.cp11, d);
     let z2 = screen_factor(k, d, behind);
-    let z3 = row_factor(slew(k.pfr * d.b0, k.sl, d), il_count_of(k.r2 - 1.0));
-    let z4 = ground_factor(w, d);
-    z1 * z2 * z3 * z4
+    array_gain(w, d, k.p11, k.cp11, z2, k.pfr * d.b0, k.sl, k.r2 - 1.0)
 }
 
 // Dual-band centre-fed tuned reflector dipole array.
-pub fn gain_2(k: Constants, w: Factors, d: Direction) -> f32
+pub(crate) fn gain_2(k: Constants, w: Factors, d: Direction) -> f32
     ensures { λ r. ⌜ r ≡ gain2 k w d ⌝ }
 {
-    let z1 = dipole_factor(k.p11, k.cp11, d);
     let z2 = reflector_factor(k, d);
-    let z3 = row_factor(slew(k.pfr * d.b0, k.sl, d), il_count_of(k.r2 - 1.0));
-    let z4 = ground_factor(w, d);
-    z1 * z2 * z3 * z4
+    array_gain(w, d, k.p11, k.cp11, z2, k.pfr * d.b0, k.sl, k.r2 - 1.0)
 }
 
 // Dual-band end-fed tuned reflector dipole array.
-pub fn gain_3(k: Constants, w: Factors, d: Direction) -> f32
+pub(crate) fn gain_3(k: Constants, w: Factors, d: Direction) -> f32
     ensures { λ r. ⌜ r ≡ gain3 k w d ⌝ }
 {
-    let z1 = dipole_factor(k.pfr, k.cpfr, d);
     let z2 = reflector_factor(k, d);
-    let z3 = row_factor(
-        slew(k.pfr * d.b0 * 2.0, k.sl, d),
-        il_count_of(k.r2 / 2.0 - 1.0),
-    );
-    let z4 = ground_factor(w, d);
-    z1 * z2 * z3 * z4
+    let pfb = k.pfr * d.b0 * 2.0;
+    array_gain(w, d, k.pfr, k.cpfr, z2, pfb, k.sl, k.r2 / 2.0 - 1.0)
 }
 
 // Tropical antennas.
-pub fn gain_4(k: Constants, w: Factors, d: Direction) -> f32
+pub(crate) fn gain_4(k: Constants, w: Factors, d: Direction) -> f32
     ensures { λ r. ⌜ r ≡ gain4 k w d ⌝ }
 {
     let pfb = k.pfr * d.b0;
-    let z1 = dipole_factor(k.p11, k.cp11, d);
     let z2 = row_factor(pfb * d.b1, il_count_of(k.r3 - 1.0));
-    let z3 = row_factor(slew(pfb, k.sl, d), il_count_of(k.r2 - 1.0));
-    let z4 = ground_factor(w, d);
-    z1 * z2 * z3 * z4
+    array_gain(w, d, k.p11, k.cp11, z2, pfb, k.sl, k.r2 - 1.0)
 }

@@ -32,12 +32,13 @@ fn factors_at<'a>(
     }
 }
 
-// By the antenna's type; 0 of a type that is none.
+// Inner step of search and gain, which refuse other records and shorter tables first. By the
+// antenna's type; 0 of a type that is none.
 pub fn gainrel(m: Model, table: &[f32], u: f32, v: f32) -> f32
     requires { ⌜ (countsOk m ≡ true) × (tableSize ≤ length (now table)) ⌝ }
     ensures { λ r. ⌜ r ≡ gainRel m (now (table .entry)) u v ⌝ }
 {
-    let iu = model::angle::ifix(u);
+    let iu = floats::rounding::ifix(u);
     let q = crate::azimuth::quadrant_of(v);
     let d = crate::azimuth::direction_of(&m.trig.a, &m.trig.b, iu, q);
     let k = m.constants;
@@ -58,11 +59,11 @@ pub fn gainrel(m: Model, table: &[f32], u: f32, v: f32) -> f32
         4 => crate::dipoles::gain_4(k, w, d),
         5 => {
             let e = m.elements;
-            crate::boom::gain_5(k, e, table, iu, d)
+            crate::boom::both_fields(crate::boom::field_of(false, k, e, table, iu, d), d)
         }
         6 => {
             let e = m.elements;
-            crate::boom::gain_6(k, e, table, iu, d)
+            crate::boom::one_field(crate::boom::field_of(true, k, e, table, iu, d))
         }
         7 => crate::rhombic::gain_7(k, w, d),
         8 => crate::crossed::gain_89(8, k, w, d),

@@ -1,9 +1,12 @@
-// The relative gain of antenna types 1 to 9 at one direction: the azimuth's fold, the patterns,
-// and the choice between them.
-pub mod azimuth;
-pub mod boom;
-pub mod complex;
-pub mod crossed;
-pub mod dipoles;
+// The relative gain of antenna types 1 to 9 at one direction, an inner step of search and gain:
+// `gainrel` is `gainRel`, for every record whose counts are accepted (`countsOk`), every table of
+// at least `tableSize` floats, every elevation and azimuth. Theorems on it: `gainRel-mirror` (the
+// mirror law over the whole azimuths, types 1 to 6), `gainRel-table` (the table's first
+// `tableSize` floats are all that it reads).
+mod azimuth;
+mod boom;
+mod complex;
+mod crossed;
+mod dipoles;
 pub mod gainrel;
-pub mod rhombic;
+mod rhombic;

@@ -70,7 +70,7 @@ pub(crate) fn vertical_image(w: Factors, a7: f32, b7: f32) -> Complex
 }
 
 // `gainrel`'s arm 7: the horizontal rhombic.
-pub fn gain_7(k: Constants, w: Factors, d: Direction) -> f32
+pub(crate) fn gain_7(k: Constants, w: Factors, d: Direction) -> f32
     ensures { λ r. ⌜ r ≡ gain7 k w d ⌝ }
 {
     let l = rhombus(k, d);

@@ -1,90 +1,59 @@
--- What each answer of a step makes of the text. Assumes nothing.
+-- What each answer of a step makes of the text, and how long the text is. Assumes nothing.
 use mathlib.Core.Path.{_≡_, sym, ap, _∙_}
 use Prim.Native.Nat.{ℕ, _≤_}
 use mathlib.Core.List.{List}
-use lib.ListN.{length, take}
+use lib.ListN.{length}
 use lib.Dec.{lit≤}
-use lib.Ieee.{Float, eq}
-use borrow.Author.Tests.{eq-eqb, ne-eqb, le-ltb}
-use Rattle.model.specs.Ops.{+0}
+use lib.Ieee.{Float}
+use borrow.Author.Tests.{le-ltb}
+use Rattle.answers.specs.Outcome as outcome
 use Rattle.model.specs.Table.{tableSize, blankTable}
-use Rattle.maxgain.specs.Maximum.{setMaxGain}
-use Rattle.maxgain.specs.declared.maximum.Maximum.{Maximum}
-use Rattle.maxgain.specs.declared.maximum.Answer.the-variants as maximum
-use Rattle.antenna.specs.declared.record.Antenna.{Antenna}
 use Rattle.antenna.specs.declared.row.PlateRow.{PlateRow}
 use Rattle.antenna.specs.declared.row.PlateRow.the-variants as row
-use Rattle.antenna.specs.declared.setup.SetUp.{SetUp}
-use Rattle.antenna.specs.declared.setup.Prepared.the-variants as setup
-use Rattle.model.specs.Answers as outcome
-use Rattle.antenna.specs.SetUp.{setUpOf, setUpAnswer, lentAfter}
 use Rattle.antenna.specs.Row.{rowOf, rowAnswer, rowAfter, writtenAfter, numbersOf}
-use Rattle.station.specs.Answers.{answer, readOf}
-use Rattle.station.specs.declared.Station.{Station}
-use Rattle.station.specs.declared.Reading.{Reading}
-use Rattle.station.specs.declared.Verdict.the-variants as verdict
-use Rattle.text.specs.Lines.{lines, refusalLine}
-use Rattle.plate_text.specs.declared.Request.{Request}
-use Rattle.plate_text.specs.Plate.{requestIn, afterRow, rowText, afterSetUp, parametersText, afterMaximum, stationText, afterRead, plateText, textIn}
+use Rattle.request.specs.declared.Request.{Request}
+use Rattle.request.specs.declared.Prepared.{Prepared}
+use Rattle.request.specs.declared.Answer.the-variants.{Ready, Refused}
+use Rattle.request.specs.Request.{requestOf, requestAnswer, tableAfter}
+use Rattle.text.specs.Lines.{linesTo, refusalLine}
+use Rattle.text.proofs.Laws.{lines-length, printed-length, printed-refused, printed-accepted}
+use Rattle.plate_text.specs.Plate.{gainAt, gradedAt, rowText, plateText, textIn}
 use Rattle.plate_text.proofs.GainLines.{lines-are-gains}
 
 -- the row, with 360 floats lent
-module _ (a : Antenna) (t : List Float) (elevation giso : Float) (lent : List Float) (len : length lent ≡ 360) (r : PlateRow) (answered : rowAnswer r ≡ rowOf a t elevation giso (length lent)) where
-  said : rowOf a t elevation giso 360 ≡ rowAnswer r
-  said = sym (answered ∙ ap (rowOf a t elevation giso) len)
+module _ (q : Request) (t lent : List Float) (len : length lent ≡ 360) (r : PlateRow) (answered : rowAnswer r ≡ rowOf (q .antenna) t (q .elevation) (q .giso) (length lent)) where
+  said : rowOf (q .antenna) t (q .elevation) (q .giso) 360 ≡ rowAnswer r
+  said = sym (answered ∙ ap (rowOf (q .antenna) t (q .elevation) (q .giso)) len)
 
-  pub row-refused : (n : ℕ) → r ≡ row.Refused n → rowText a t elevation giso ≡ refusalLine n
-  unfolding rowText afterRow rowAnswer
-  row-refused n told = ap (λ (o : outcome.Outcome Float). afterRow o a t elevation giso) (said ∙ ap rowAnswer told)
+  pub row-refused : (n : ℕ) → r ≡ row.Refused n → rowText q t ≡ refusalLine n
+  unfolding rowText rowAnswer
+  row-refused n told = printed-refused _ _ n (said ∙ ap rowAnswer told)
 
-  pub row-lines : (x : Float) → r ≡ row.FrontToBack x → rowText a t elevation giso ≡ lines (eq (a .peak .z6) +0) (numbersOf a t elevation giso) 360
-  unfolding rowText afterRow rowAnswer
+  -- its numbers are those that the lines are made of
+  pub row-lines : (x : Float) → r ≡ row.FrontToBack x → rowText q t ≡ linesTo (gradedAt (q .antenna .peak .z6) (rowAfter (q .antenna) t (q .elevation) (q .giso) lent)) 360
+  unfolding rowText rowAfter writtenAfter rowAnswer
   row-lines x told =
-      let accepted : rowOf a t elevation giso 360 ≡ outcome.accepted x = said ∙ ap rowAnswer told in
-      ap (λ (o : outcome.Outcome Float). afterRow o a t elevation giso) accepted ∙ lines-are-gains a t elevation giso accepted 360 (lit≤ tt)
+      let accepted : rowOf (q .antenna) t (q .elevation) (q .giso) 360 ≡ outcome.accepted x = said ∙ ap rowAnswer told in
+      let numbers = numbersOf (q .antenna) t (q .elevation) (q .giso) in
+      let written = ap (λ (o : outcome.Outcome Float). writtenAfter o numbers lent) (sym answered ∙ ap rowAnswer told) in
+      printed-accepted _ _ x accepted ∙ lines-are-gains q t accepted ∙ ap (λ (l : List Float). linesTo (gradedAt (q .antenna .peak .z6) l) 360) (sym written)
 
-  pub row-numbers : (x : Float) → r ≡ row.FrontToBack x → rowAfter a t elevation giso lent ≡ numbersOf a t elevation giso
-  unfolding rowAfter writtenAfter rowAnswer
-  row-numbers x told = ap (λ (o : outcome.Outcome Float). writtenAfter o (numbersOf a t elevation giso) lent) (sym answered ∙ ap rowAnswer told)
+-- the steps before it
+module _ (input : List ℕ) (p : Prepared) (answered : requestAnswer p ≡ requestOf input tableSize) where
+  pub request-refused : (n : ℕ) → p .answer ≡ Refused n → plateText input ≡ refusalLine n
+  unfolding plateText requestAnswer
+  request-refused n told = printed-refused _ _ n (sym answered ∙ rw told)
 
--- set-up
-module _ (parm : List Float) (giso elevation : Float) (r : SetUp) (answered : setUpAnswer r ≡ setUpOf parm tableSize) where
-  set-up-said : (o : outcome.Outcome (Antenna × ℕ)) → setUpAnswer r ≡ o → parametersText parm giso elevation ≡ afterSetUp o (lentAfter parm blankTable) giso elevation
-  unfolding parametersText
-  set-up-said o said = ap (λ (x : outcome.Outcome (Antenna × ℕ)). afterSetUp x (lentAfter parm blankTable) giso elevation) (sym answered ∙ said)
+  pub request-ready : p .answer ≡ Ready → plateText input ≡ rowText (p .request) (tableAfter input blankTable)
+  unfolding plateText requestAnswer
+  request-ready told = printed-accepted _ _ (p .request) (sym answered ∙ rw told)
 
-  pub set-up-refused : (n : ℕ) → r .answer ≡ setup.Refused n → parametersText parm giso elevation ≡ refusalLine n
-  unfolding afterSetUp setUpAnswer
-  set-up-refused n told = set-up-said (outcome.refused n) (rw told)
-
-  pub set-up-row : (n : ℕ) → r .answer ≡ setup.Ready n → parametersText parm giso elevation ≡ rowText (r .antenna) (lentAfter parm blankTable) elevation giso
-  unfolding afterSetUp setUpAnswer
-  set-up-row n told = set-up-said (outcome.accepted (r .antenna, n)) (rw told)
-
--- the maximum gain
-module _ (s : Station) (q : Request) (m : Maximum) (answered : m ≡ setMaxGain (s .mode) (s .parm) (s .gainmax) (s .gainmaxb) (q .mhz) (q .design)) where
-  pub maximum-refused : (n : ℕ) → m .answer ≡ maximum.Refused n → stationText s q ≡ refusalLine n
-  unfolding stationText afterMaximum
-  maximum-refused n told = rw (← answered, told)
-
-  pub maximum-antenna : (giso : Float) → m .answer ≡ maximum.Gain giso → stationText s q ≡ parametersText (m .parm) giso (q .elevation)
-  unfolding stationText afterMaximum
-  maximum-antenna giso told = rw (← answered, told)
-
--- the reader
-module _ (input : List ℕ) (len : length input ≡ 237) (r : Reading) (answered : answer (r .verdict) (r .station) ≡ readOf (take 225 input)) where
-  pub read-refused : (n : ℕ) → r .verdict ≡ verdict.Refused n → plateText input ≡ refusalLine n
-  unfolding plateText afterRead
-  read-refused n told = rw (eq-eqb (length input) 237 len, ← answered, told)
-
-  pub read-station : r .verdict ≡ verdict.Accepted → plateText input ≡ stationText (r .station) (requestIn input)
-  unfolding plateText afterRead
-  read-station told = rw (eq-eqb (length input) 237 len, ← answered, told)
-
--- an input of another length
-pub length-refused : (input : List ℕ) → (length input ≡ 237 → ⊥) → plateText input ≡ refusalLine 1
-unfolding plateText
-length-refused input h = rw (ne-eqb (length input) 237 h)
+-- 360 lines of 21 bytes at most
+pub plate-text-short : (input : List ℕ) → length (plateText input) ≤ 7560
+unfolding plateText rowText
+plate-text-short input =
+    printed-length (requestOf input tableSize) _ 7560 (lit≤ tt)
+    λ q. printed-length (rowOf (q .antenna) (tableAfter input blankTable) (q .elevation) (q .giso) 360) _ 7560 (lit≤ tt) λ x. lines-length (gainAt q (tableAfter input blankTable)) 360
 
 -- a buffer that has room
 pub roomy : (room : ℕ) (input : List ℕ) → 8192 ≤ room → textIn room input ≡ plateText input

@@ -5,8 +5,8 @@ use Prim.Native.Nat.{ℕ, zero, suc, _+_, _*_}
 use native.Mathlib.Omega.{arith}
 use lib.ListN.{length, length-append}
 use lib.Ieee.{Float}
-use Rattle.model.specs.Ops.{at}
-use Rattle.model.specs.Answers.{Outcome, refused, accepted}
+use Rattle.floats.specs.Ops.{at}
+use Rattle.answers.specs.Outcome.{Outcome, refused, accepted}
 use Rattle.antenna.specs.Gain.{Kind, gainOf}
 use Rattle.antenna.specs.declared.record.Antenna.{Antenna}
 use Rattle.service.specs.Gains.{gainWords, gainsTo}

@@ -2,7 +2,7 @@
 use mathlib.Core.Path.{_≡_, refl}
 use Prim.Native.Nat.{ℕ}
 use lib.ListN.{length}
-use Rattle.model.specs.Answers.{refused, accepted}
+use Rattle.answers.specs.Outcome.{refused, accepted}
 use Rattle.antenna.specs.SetUp.{setUpAnswer}
 use Rattle.antenna.specs.declared.record.Peak.{Peak}
 use Rattle.antenna.specs.declared.setup.Prepared.the-variants.{Ready, Refused}

@@ -5,7 +5,7 @@ use mathlib.Core.List.{List}
 use lib.ListN.{length}
 use lib.Dec.{eqb}
 use lib.Ieee.{Float, binary32, toBits}
-use Rattle.model.specs.Answers.{Outcome, refused, accepted}
+use Rattle.answers.specs.Outcome.{Outcome, refused, accepted}
 use Rattle.curtain.specs.Answers.{curtainGain}
 
 -- kind × 2^32 plus a word: kind 0 is a level with its bits, kind 3 a refusal with its number

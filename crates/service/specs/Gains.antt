@@ -5,9 +5,9 @@ use mathlib.Core.List.{List, [], _∷_, _++_}
 use lib.ListN.{length}
 use lib.Dec.{eqb}
 use lib.Ieee.{Float, binary32, toBits}
-use Rattle.model.specs.Ops.{at}
+use Rattle.floats.specs.Ops.{at}
 use Rattle.model.specs.Table.{tableSize, blankTable}
-use Rattle.model.specs.Answers.{Outcome, refused, accepted}
+use Rattle.answers.specs.Outcome.{Outcome, refused, accepted}
 use Rattle.antenna.specs.Gain.{Kind, level, floor, silence, gainOf}
 use Rattle.antenna.specs.SetUp.{setUpOf, lentAfter}
 use Rattle.antenna.specs.declared.record.Antenna.{Antenna}

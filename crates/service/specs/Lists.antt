@@ -1,7 +1,7 @@
 -- What a call leaves, and floats as the words of a list. Definitions only.
-use Prim.Native.Nat.{ℕ, _+_}
-use mathlib.Core.List.{List, _++_, map}
-use lib.ListN.{length, take, drop}
+use Prim.Native.Nat.{ℕ}
+use mathlib.Core.List.{List, map}
+use lib.ListN.{take, drop}
 use lib.Ieee.{Float, binary32, ofBits, toBits}
 
 -- the number that a call returns, and what it leaves in the lent buffer
@@ -19,7 +19,3 @@ bits xs = map (toBits binary32) xs
 -- words as floats; `ofBits` reads each NaN pattern as the one NaN
 abbrev pub floats : List ℕ → List Float
 floats ws = map (ofBits binary32) ws
-
--- words laid over those of a list from `at` on
-abbrev pub laid : List ℕ → ℕ → List ℕ → List ℕ
-laid out at ws = take at out ++ ws ++ drop (at + length ws) out

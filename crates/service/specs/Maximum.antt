@@ -5,7 +5,7 @@ use mathlib.Core.List.{List, _∷_}
 use lib.ListN.{length}
 use lib.Dec.{eqb}
 use lib.Ieee.{Float, binary32, toBits}
-use Rattle.model.specs.Ops.{at}
+use Rattle.floats.specs.Ops.{at}
 use Rattle.maxgain.specs.declared.maximum.Answer.{Answer}
 use Rattle.maxgain.specs.declared.maximum.Answer.the-variants.{Gain, Refused}
 use Rattle.maxgain.specs.declared.maximum.Maximum.{Maximum}

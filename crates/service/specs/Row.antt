@@ -5,11 +5,11 @@ use mathlib.Core.List.{List}
 use lib.ListN.{length, set}
 use lib.Dec.{eqb}
 use lib.Ieee.{Float, binary32, toBits}
-use Rattle.model.specs.Answers.{Outcome, refused, accepted}
+use Rattle.answers.specs.Outcome.{Outcome, refused, accepted}
 use Rattle.antenna.specs.SetUp.{setUpOf, lentAfter}
 use Rattle.antenna.specs.Row.{rowOf, rowAfter}
 use Rattle.antenna.specs.declared.record.Antenna.{Antenna}
-use Rattle.service.specs.Lists.{laid}
+use Rattle.words.specs.Laid.{laid}
 use Rattle.service.specs.Search.{searchWords}
 
 -- the number that the call returns, and what it leaves in the lent table, row and words

@@ -4,17 +4,25 @@ ghost use Prim.Native.Nat.{_+_, _≤_};
 ghost use lib.ListN.{length};
 ghost use Rattle.service.specs.Lists.{part};
 
+// Copies floats of s from `at` on over all of out.
+fn copy_part(s: &[f32], at: usize, out: &mut [f32])
+    requires { ⌜ at + length (now out) ≤ length (now s) ⌝ }
+    ensures { λ _. ⌜ now (out .exit) ≡ part (now (s .entry)) at (length (now (out .entry))) ⌝ }
+{
+    let mut i: usize = 0;
+    while i < out.len() {
+        out[i] = s[at + i];
+        i += 1;
+    }
+}
+
 // The twenty parameters.
 pub(crate) fn parm_at(s: &[f32], at: usize) -> [f32; 20]
     requires { ⌜ at + 20 ≤ length (now s) ⌝ }
     ensures { λ r. ⌜ r ≡ part (now (s .entry)) at 20 ⌝ }
 {
     let mut out = [0.0f32; 20];
-    let mut i: usize = 0;
-    while i < 20 {
-        out[i] = s[at + i];
-        i += 1;
-    }
+    copy_part(s, at, &mut out);
     out
 }
 
@@ -24,11 +32,7 @@ pub(crate) fn gainmax_at(s: &[f32], at: usize) -> [f32; 6]
     ensures { λ r. ⌜ r ≡ part (now (s .entry)) at 6 ⌝ }
 {
     let mut out = [0.0f32; 6];
-    let mut i: usize = 0;
-    while i < 6 {
-        out[i] = s[at + i];
-        i += 1;
-    }
+    copy_part(s, at, &mut out);
     out
 }
 
@@ -38,10 +42,6 @@ pub(crate) fn gainmaxb_at(s: &[f32], at: usize) -> [f32; 30]
     ensures { λ r. ⌜ r ≡ part (now (s .entry)) at 30 ⌝ }
 {
     let mut out = [0.0f32; 30];
-    let mut i: usize = 0;
-    while i < 30 {
-        out[i] = s[at + i];
-        i += 1;
-    }
+    copy_part(s, at, &mut out);
     out
 }

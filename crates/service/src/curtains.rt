@@ -1,7 +1,7 @@
 // The curtain's gain, its answer as one number.
 use crate::arrays::parm_at;
 use curtain::answer::Gain;
-use station::bits::bits_of;
+use numeric::bits::bits_of;
 ghost use mathlib.Core.Path.{_≡_};
 ghost use Rattle.curtain.specs.Answers.{answerOf};
 ghost use Rattle.service.specs.Curtain.{packed, curtainCall};

@@ -7,14 +7,15 @@ use antenna::record::Antenna;
 use antenna::setup::Prepared;
 use antenna::setup::antinit2;
 use model::table::blank_table;
-use station::bits::bits_of;
+use numeric::bits::bits_of;
 ghost use mathlib.Core.Path.{_≡_};
 ghost use mathlib.Core.List.{[], _∷_};
 ghost use Prim.Native.Nat.{_+_, _/_, _%_, _≤_};
 ghost use lib.ListN.{length};
 ghost use Rattle.antenna.specs.Gain.{gainAnswer};
 ghost use Rattle.antenna.specs.SetUp.{setUpOf, lentAfter};
-ghost use Rattle.service.specs.Lists.{left, laid};
+ghost use Rattle.service.specs.Lists.{left};
+ghost use Rattle.words.specs.Laid.{laid};
 ghost use Rattle.service.specs.Gains.{gainWords, gainsTo, gainsLeft, gainsFit, gainsCall};
 
 // A gain in two words.

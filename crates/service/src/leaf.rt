@@ -1,13 +1,13 @@
 // The elementary functions by number, bits in and bits out.
 use numeric::arctangent::atan;
+use numeric::bits::bits_of;
+use numeric::bits::float_of;
 use numeric::logarithm::ln;
 use numeric::logarithm::log10;
 use numeric::power::powf;
 use numeric::root::sqrt;
 use numeric::sine::cos;
 use numeric::sine::sin;
-use station::bits::bits_of;
-use station::bits::float_of;
 ghost use mathlib.Core.Path.{_≡_};
 ghost use Rattle.service.specs.Leaf.{leaf, leafOf};
 

@@ -2,12 +2,12 @@
 use crate::arrays::gainmax_at;
 use crate::arrays::gainmaxb_at;
 use crate::arrays::parm_at;
-use crate::words::mode_of;
-use crate::words::put_bits;
+use crate::lent::mode_of;
+use crate::lent::put_bits;
 use maxgain::maximum::Answer;
 use maxgain::maximum::Maximum;
 use maxgain::maximum::setmaxgain;
-use station::bits::bits_of;
+use numeric::bits::bits_of;
 ghost use mathlib.Core.Path.{_≡_};
 ghost use lib.ListN.{length};
 ghost use Rattle.service.specs.Lists.{left};

@@ -1,7 +1,6 @@
 // The program `plate` for Rust and C callers.
 ghost use lib.ListN.{length};
-ghost use Rattle.text.specs.Writing.{Wrote};
-ghost use Rattle.plate_text.specs.Plate.{textIn};
+ghost use Rattle.plate_text.specs.Plate.{Wrote, textIn};
 
 // The program's whole output for this input, and its length; a text of under 8,192 bytes gets
 // nothing, and 0.

@@ -2,9 +2,9 @@
 use crate::arrays::gainmax_at;
 use crate::arrays::gainmaxb_at;
 use crate::arrays::parm_at;
-use crate::words::floats_of;
-use crate::words::mode_of;
-use crate::words::put_bits;
+use crate::lent::floats_of;
+use crate::lent::mode_of;
+use crate::lent::put_bits;
 use station::Station;
 use station::Verdict;
 ghost use mathlib.Core.Path.{_≡_};

@@ -4,7 +4,7 @@ use crate::search::put_search;
 use antenna::row::PlateRow;
 use antenna::setup::Prepared;
 use antenna::setup::antinit2;
-use station::bits::bits_of;
+use numeric::bits::bits_of;
 ghost use mathlib.Core.Path.{_≡_};
 ghost use lib.ListN.{length};
 ghost use Rattle.antenna.specs.Row.{rowAnswer};

@@ -1,10 +1,10 @@
 // What set-up's search found, as words.
 use antenna::record::Peak;
-use station::bits::bits_of;
+use numeric::bits::bits_of;
 ghost use mathlib.Core.Path.{_≡_};
 ghost use Prim.Native.Nat.{_≤_};
 ghost use lib.ListN.{length};
-ghost use Rattle.service.specs.Lists.{laid};
+ghost use Rattle.words.specs.Laid.{laid};
 ghost use Rattle.service.specs.Search.{searchWords};
 
 // Writes the reading count's low half and the peak's bits over the first four words.

@@ -9,7 +9,7 @@ use lib.ListN.{length, getD}
 use lib.Dec.{T}
 use lib.Ieee.{Float, nan, inf, fin, isNan}
 use lib.Ieee.Scale.{finite}
-use Rattle.model.specs.Ranges.{finiteTo, allFinite}
+use Rattle.floats.specs.Ranges.{finiteTo, allFinite}
 
 finite-not-nan : (v : Float) → finite v ≡ true → isNan v ≡ false
 unfolding isNan

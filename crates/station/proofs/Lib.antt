@@ -1,5 +1,4 @@
 -- Laws that several proofs cite: one file for each subject.
-pub mod Digits
 pub mod Finite
 pub mod Arrays
 pub mod Unpacking

@@ -4,13 +4,15 @@ use Prim.Native.Nat.{ℕ, suc, _+_, _-_, _*_, _/_, _%_, _^_, _≤_, _<_}
 use native.Mathlib.Nat.{add-comm, mul-comm, mul-assoc, add-mul, add-mul-div-right, add-mul-mod-self-right, div-add-mod', mod-lt, mul-div-mul-right, div-lt-iff-lt-mul, mul-div-cancel, mul-mod-left, add-zero}
 use native.Mathlib.Omega.{arith}
 use mathlib.Core.List.{List, [], _∷_, _++_}
-use lib.ListN.{length, take, drop, set, getD, length-append, drop-of-length-le}
-use lib.Seq.{sets, sets-eq, take-at, set-split, length-take-le, take-suc, take-all, length-sets}
+use lib.ListN.{length, take, set, getD, drop-of-length-le}
+use lib.Seq.{set-split, take-suc, take-all}
 use lib.Arith.{digits-lt, digits-div, mod-mul}
 use lib.Pow.{pow-pos}
-use Rattle.station.specs.Digits.{after, digits}
+use Rattle.words.specs.Digits.{after, digits}
+use Rattle.words.specs.Laid.{laid}
+use Rattle.words.proofs.Laid.{take-laid, laid-length}
 use Rattle.station.specs.Record.{packed}
-use Rattle.station.proofs.Digits.{after-append, digits-add, digits-mod-pow, length-digits, digits-last}
+use Rattle.words.proofs.Digits.{after-append, digits-add, digits-mod-pow, length-digits, digits-last}
 use Rattle.station.proofs.Unpacking.{unit}
 
 -- the bits that are carried and a word, without the last h bits, fit a word
@@ -60,13 +62,11 @@ module _ (h X w : ℕ) where
 
   -- the same of a buffer whose first m bytes are X's
   pub packed-more : (out : List ℕ) (m : ℕ) → w < 2 ^ 32 → m + 4 ≤ length out → take m out ≡ digits 256 m (X / 2 ^ h)
-      → take (m + 4) (sets out m (digits 256 4 ((X % 2 ^ h * 2 ^ 32 + w) / 2 ^ h))) ≡ digits 256 (m + 4) ((X * 2 ^ 32 + w) / 2 ^ h)
+      → take (m + 4) (laid out m (digits 256 4 ((X % 2 ^ h * 2 ^ 32 + w) / 2 ^ h))) ≡ digits 256 (m + 4) ((X * 2 ^ 32 + w) / 2 ^ h)
   packed-more out m l room e =
       let vs = digits 256 4 ((X % 2 ^ h * 2 ^ 32 + w) / 2 ^ h) in
       let n : length vs ≡ 4 = length-digits 256 4 ((X % 2 ^ h * 2 ^ 32 + w) / 2 ^ h) in
-      let p : length (take m out ++ vs) ≡ m + 4 = omega (arith, length-append (take m out) vs, length-take-le m out (omega arith)) in
-      ap (take (m + 4)) (sets-eq vs out m (omega arith))
-      ∙ take-at (take m out ++ vs) (drop (m + length vs) out) (m + 4) p
+      take-laid out m vs (m + 4) (omega arith) (omega arith)
       ∙ ap (λ (xs : List ℕ). xs ++ vs) e
       ∙ sym (bytes-more m l)
 
@@ -110,17 +110,17 @@ written-none h header words out len = record { room = len; left = refl; bytes = 
 
 pub written-more : (h header : ℕ) (words out : List ℕ) (carry k w d : ℕ) → Written h header words out carry k
     → length words ≡ 56 → k < 56 → w ≡ getD words k d → w < 2 ^ 32
-    → Written h header words (sets out (4 * k) (digits 256 4 ((carry * 2 ^ 32 + w) / 2 ^ h))) ((carry * 2 ^ 32 + w) % 2 ^ h) (suc k)
+    → Written h header words (laid out (4 * k) (digits 256 4 ((carry * 2 ^ 32 + w) / 2 ^ h))) ((carry * 2 ^ 32 + w) % 2 ^ h) (suc k)
 written-more h header words out carry k w d r len l e small =
     let X = after (2 ^ 32) header (take k words) in
     let s : after (2 ^ 32) header (take (suc k) words) ≡ X * 2 ^ 32 + w = after-take (2 ^ 32) header words k d (omega arith) ∙ ap (λ (x : ℕ). X * 2 ^ 32 + x) (sym e) in
     let m : 4 * suc k ≡ 4 * k + 4 = omega arith in
     record {
-      room = length-sets out (4 * k) (digits 256 4 ((carry * 2 ^ 32 + w) / 2 ^ h)) ∙ r .room;
+      room = laid-length out (4 * k) (digits 256 4 ((carry * 2 ^ 32 + w) / 2 ^ h)) (omega (arith, r .room, length-digits 256 4 ((carry * 2 ^ 32 + w) / 2 ^ h))) ∙ r .room;
       left = ap (λ (x : ℕ). (x * 2 ^ 32 + w) % 2 ^ h) (r .left) ∙ sym (ap (λ (x : ℕ). x % 2 ^ h) s ∙ left-over h X w);
       bytes =
-          ap (λ (x : ℕ). take (4 * suc k) (sets out (4 * k) (digits 256 4 ((x * 2 ^ 32 + w) / 2 ^ h)))) (r .left)
-          ∙ ap (λ (i : ℕ). take i (sets out (4 * k) (digits 256 4 ((X % 2 ^ h * 2 ^ 32 + w) / 2 ^ h)))) m
+          ap (λ (x : ℕ). take (4 * suc k) (laid out (4 * k) (digits 256 4 ((x * 2 ^ 32 + w) / 2 ^ h)))) (r .left)
+          ∙ ap (λ (i : ℕ). take i (laid out (4 * k) (digits 256 4 ((X % 2 ^ h * 2 ^ 32 + w) / 2 ^ h)))) m
           ∙ packed-more h X w out (4 * k) small (omega (arith, r .room)) (r .bytes)
           ∙ ap (λ (i : ℕ). digits 256 i ((X * 2 ^ 32 + w) / 2 ^ h)) (sym m)
           ∙ ap (λ (x : ℕ). digits 256 (4 * suc k) (x / 2 ^ h)) (sym s);

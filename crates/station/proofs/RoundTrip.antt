@@ -12,13 +12,13 @@ use lib.Ieee.{Float, binary32, ofBits, toBits, fits}
 use lib.Ieee.Bits.{ofBits-toBits, toBits-ofBits, toBits-lt}
 use lib.Ieee.Scale.{finite}
 use borrow.Author.Tests.{eq-eqb, eqb-true, le-leb, leb-true}
-use Rattle.model.specs.Ranges.{allFinite}
-use Rattle.model.proofs.Tests.{both}
+use Rattle.floats.specs.Ranges.{allFinite}
+use Rattle.floats.proofs.Tests.{both}
 use Rattle.station.specs.declared.Station.{Station}
-use Rattle.station.specs.Digits.{after, number, digits, Below, none, more}
+use Rattle.words.specs.Digits.{after, number, digits, Below, none, more}
 use Rattle.station.specs.Record.{packed, headerIn, wordsIn, spareIn, floatsOf, wordsOf, stationOf, editionIn, modeIn, floatsIn, isRecord, recordOf, zeros}
 use Rattle.station.specs.Answers.{accepted, refused, floatsAnswer, readOf, writeOf}
-use Rattle.station.proofs.Digits.{after-lt, after-div, after-digits, length-digits, below-digits, read-digits, write-digits}
+use Rattle.words.proofs.Digits.{after-lt, after-div, after-digits, length-digits, below-digits, read-digits, write-digits}
 use Rattle.station.proofs.Finite.{finite-value, allFinite-cons}
 use Rattle.station.proofs.Arrays.{station-of, floats-back, floats-length}
 use Rattle.station.proofs.Unpacking.{unit}

@@ -1,30 +1,21 @@
 -- The words of a record's bytes, over the header's width h: word k lies in the five bytes from byte 4 * k on. Assumes nothing.
 use mathlib.Core.Path.{_≡_, refl, sym, ap, _∙_, subst}
 use Prim.Native.Nat.{ℕ, zero, suc, _+_, _-_, _*_, _/_, _%_, _^_, _≤_, _<_}
-use native.Mathlib.Nat.{add-zero, zero-add, add-suc, mul-suc, add-comm, mul-comm, mul-assoc, add-mul-div-right, add-mul-mod-self-right, div-div-eq-div-mul, pow-succ', add-sub-of-le}
+use native.Mathlib.Nat.{add-zero, zero-add, mul-suc, add-comm, mul-comm, mul-assoc, add-mul-div-right, add-mul-mod-self-right, div-div-eq-div-mul, pow-succ', add-sub-of-le}
 use native.Mathlib.Omega.{arith}
 use mathlib.Core.List.{List, [], _∷_}
 use lib.ListN.{length, take, drop, getD, length-drop, take-append-drop, length-map, List·getD-map}
-use lib.Seq.{drop-cons, take-add, take-suc, take-all}
+use lib.Seq.{take-add, take-suc, take-all}
 use borrow.Author.Tests.{eq-eqb}
 use mathlib.Core.Bool.{true, _&&_}
 use lib.Ieee.Fits.{and-l}
 use lib.Dec.{T, eqb, eqb→eq, lit≤}
 use lib.Ieee.{nan, binary32, ofBits}
 use lib.Pow.{pow-add, pow-pos}
-use Rattle.station.specs.Digits.{after, number, digits, Below, none, more}
+use Rattle.words.specs.Digits.{after, number, digits, Below}
 use Rattle.station.specs.Record.{wordsIn, wordIn, headerIn, spareIn, isRecord, floatsIn}
-use Rattle.station.proofs.Digits.{after-append, after-div, digit-at, length-digits}
-
--- bytes that are each below the base, index by index
-pub below-all : (B : ℕ) (l : List ℕ) → ((i : ℕ) → getD l i 0 < B) → Below B l
-below-all B [] f = none
-below-all B (x ∷ xs) f = more (f 0) (below-all B xs (λ i. f (suc i)))
-
-pub below-drop : {B : ℕ} (k : ℕ) {l : List ℕ} → Below B l → Below B (drop k l)
-below-drop zero r = r
-below-drop (suc k) none = none
-below-drop (suc k) (more h r) = below-drop k r
+use Rattle.words.proofs.Elements.{take-elements}
+use Rattle.words.proofs.Digits.{below-drop, after-append, after-div, digit-at, length-digits}
 
 -- four bytes are a word
 pub word-bytes : (r : ℕ) → 256 ^ (4 * r) ≡ (2 ^ 32) ^ r
@@ -55,17 +46,6 @@ word-alone h n a b c d e l =
     ∙ ap (λ (x : ℕ). x % 2 ^ 32) (add-mul-div-right w (n * 2 ^ 32 * 2 ^ h) (pow-pos (8 - h)))
     ∙ ap (λ (x : ℕ). (w / u + x) % 2 ^ 32) (mul-assoc n (2 ^ 32) (2 ^ h) ∙ ap (λ (x : ℕ). n * x) (mul-comm (2 ^ 32) (2 ^ h)) ∙ sym (mul-assoc n (2 ^ h) (2 ^ 32)))
     ∙ add-mul-mod-self-right (w / u) (n * 2 ^ h) (2 ^ 32)
-
--- n elements of l from at + i on, one by one
-abbrev pub elements : List ℕ → ℕ → ℕ → ℕ → List ℕ
-elements l at i zero = []
-elements l at i (suc n) = getD l (at + i) 0 ∷ elements l at (suc i) n
-
-pub take-elements : (l : List ℕ) (at i n : ℕ) → at + i + n ≤ length l → take n (drop (at + i) l) ≡ elements l at i n
-take-elements l at i zero h = refl
-take-elements l at i (suc n) h =
-    ap (take (suc n)) (drop-cons l (at + i) 0 (omega arith) ∙ ap (λ (k : ℕ). getD l (at + i) 0 ∷ drop k l) (sym (add-suc at i)))
-    ∙ ap (λ (r : List ℕ). getD l (at + i) 0 ∷ r) (take-elements l at (suc i) n (omega arith))
 
 pub five : (l : List ℕ) (at : ℕ) → at + 5 ≤ length l
     → take 5 (drop at l) ≡ getD l at 0 ∷ getD l (at + 1) 0 ∷ getD l (at + 2) 0 ∷ getD l (at + 3) 0 ∷ getD l (at + 4) 0 ∷ []

@@ -5,7 +5,7 @@ use mathlib.Core.List.{List}
 use lib.ListN.{length}
 use lib.Dec.{eqb, leb}
 use lib.Ieee.{Float}
-use Rattle.model.specs.Ranges.{allFinite}
+use Rattle.floats.specs.Ranges.{allFinite}
 use Rattle.station.specs.declared.Station.{Station}
 use Rattle.station.specs.declared.Verdict.{Verdict}
 use Rattle.station.specs.declared.Verdict.the-variants.{Accepted, Refused}

@@ -6,7 +6,7 @@ use mathlib.Core.List.{List, _++_, map}
 use lib.ListN.{length, take, drop, replicate}
 use lib.Dec.{eqb}
 use lib.Ieee.{Float, binary32, ofBits, toBits}
-use Rattle.station.specs.Digits.{after, number, digits}
+use Rattle.words.specs.Digits.{after, number, digits}
 use Rattle.station.specs.declared.Station.{Station}
 
 -- ---- the fields, over the header's width h

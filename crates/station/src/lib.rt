@@ -1,18 +1,17 @@
 // The station record: 225 bytes with a mode and 56 floats, read and written. specs/Record.antt says
 // what a record is, specs/Answers.antt what the reader and the writer answer.
-pub mod bits;
-pub mod floats;
-pub mod words;
+pub mod fields;
+pub mod packed;
 
-use bits::bits_of;
-use bits::float_of;
-use floats::all_finite;
-use floats::blank;
-use floats::float_at;
-use floats::with_float;
+use fields::all_finite;
+use fields::blank;
+use fields::float_at;
+use fields::with_float;
+use numeric::bits::bits_of;
+use numeric::bits::float_of;
 use numeric::float::is_finite;
-use words::put_word;
-use words::word_at;
+use packed::put_word;
+use packed::word_at;
 ghost use mathlib.Core.Path.{_≡_};
 ghost use Prim.Native.Nat.{_≤_};
 ghost use lib.ListN.{length};

@@ -1,3 +1,2 @@
--- Laws that several proofs cite: one file for each subject.
-pub mod Overlay
-pub mod Lengths
+-- Laws of the lines, for the proofs here and in the programs above.
+pub mod Laws

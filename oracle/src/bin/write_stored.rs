@@ -3,8 +3,8 @@
 
 #[cfg(source)]
 fn main() -> std::io::Result<()> {
-    use oracle::{examples, replay};
-    for (path, bytes) in examples::inputs().into_iter().chain(examples::texts()).chain(replay::files()) {
+    use oracle::{examples, lists};
+    for (path, bytes) in examples::inputs().into_iter().chain(examples::texts()).chain(lists::files()) {
         std::fs::create_dir_all(std::path::Path::new(&path).parent().unwrap())?;
         std::fs::write(&path, &bytes)?;
         println!("{path}: {} bytes", bytes.len());

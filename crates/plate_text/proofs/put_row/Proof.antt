@@ -3,12 +3,13 @@ use mathlib.Core.Path.{_≡_}
 use mathlib.Core.List.{List}
 use lib.ListN.{length, replicate, length-replicate}
 use lib.Ieee.{Float}
-use Rattle.model.specs.Ops.{+0}
-use Rattle.plate_text.proofs.Steps.{row-refused, row-lines, row-numbers}
+use Rattle.floats.specs.Ops.{+0}
+use Rattle.plate_text.proofs.Steps.{row-refused, row-lines}
 use borrow.Author.Needs.{needs}
 use Rattle.plate_text.proofs.put_row.Statement.{statement}
 use Rattle.plate_text.proofs.put_row.Tie as tie
 
+-- the floats that are lent for the row
 abbrev lent : List Float
 lent = replicate 360 +0
 
@@ -24,8 +25,8 @@ row-requires c κs = search needs
 enum-known-answer : tie.Need-enum-known-answer
 enum-known-answer c = search needs
 
-put-refusal-requires : tie.Need-put-refusal-requires
-put-refusal-requires c κs = search needs
+push-refusal-requires : tie.Need-push-refusal-requires
+push-refusal-requires c κs = search needs
 
 enum-told : tie.Need-enum-told
 enum-told c = search needs
@@ -41,23 +42,20 @@ same-length c = search needs
 
 returns : tie.Need-returns
 returns c =
-    let told = c .before .before .before .before .before in
-    let answered = told .before .before .before in
-    let a = answered .before .before .before .before .args in
-    rw (row-refused (a .ant) (a .table .now) (a .elevation) (a .giso) lent room (answered .row .result) (answered .row .ensures .0) (told .answer .given .0 .0) (told .answer .given .1)) (c .before .before .put-refusal .ensures)
+    let told = c .before .before .before .before .before .answer .given in
+    let answered = c .before .before .before .before .before .before .before .before in
+    let a = answered .before .before .before .before .before .args in
+    rw (row-refused (a .q) (a .table .now) lent room (answered .row .result) (answered .row .ensures .0) (told .0 .0) (told .1)) (c .before .before .push-refusal .ensures)
 
 same-length-2 : tie.Need-same-length-2
 same-length-2 c = search needs
 
 returns-2 : tie.Need-returns-2
 returns-2 c =
-    let told = c .before .before .before .before .before .before in
-    let answered = told .before .before .before in
-    let a = answered .before .before .before .before .args in
-    let x = told .enum-told .given .0 .0 in
-    let is-lines = row-lines (a .ant) (a .table .now) (a .elevation) (a .giso) lent room (answered .row .result) (answered .row .ensures .0) x (told .enum-told .given .1) in
-    let are-numbers = row-numbers (a .ant) (a .table .now) (a .elevation) (a .giso) lent room (answered .row .result) (answered .row .ensures .0) x (told .enum-told .given .1) in
-    rw (is-lines, ← are-numbers, ← answered .row .ensures .1) (c .before .before .put-lines .ensures)
+    let told = c .before .before .before .before .before .enum-told .given in
+    let answered = c .before .before .before .before .before .before .before .before in
+    let a = answered .before .before .before .before .before .args in
+    rw (row-lines (a .q) (a .table .now) lent room (answered .row .result) (answered .row .ensures .0) (told .0 .0) (told .1), ← answered .row .ensures .1) (c .before .before .put-lines .ensures)
 
 pub put-row-spec : {M : Type 1} → statement M
 put-row-spec =
@@ -66,7 +64,7 @@ put-row-spec =
     slice-aggregate-row
     row-requires
     enum-known-answer
-    put-refusal-requires
+    push-refusal-requires
     enum-told
     slice-aggregate-put-lines
     put-lines-requires

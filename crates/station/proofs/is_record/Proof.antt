@@ -6,7 +6,8 @@ use lib.ListN.{length, getD}
 use lib.Dec.{eqb}
 use borrow.Author.Tests.{eq-eqb, ne-eqb}
 use Rattle.station.specs.Record.{isRecord}
-use Rattle.station.proofs.Unpacking.{is-record, below-all}
+use Rattle.words.proofs.Digits.{below-all}
+use Rattle.station.proofs.Unpacking.{is-record}
 use borrow.Author.Needs.{needs}
 use Rattle.station.proofs.is_record.Statement.{statement}
 use Rattle.station.proofs.is_record.Tie as tie

@@ -8,7 +8,8 @@ use borrow.Author.Needs.{needs}
 use borrow.Author.Tests.{not-true, not-false}
 use Rattle.station.specs.Record.{isRecord}
 use Rattle.station.specs.Answers.{readOf}
-use Rattle.station.proofs.Unpacking.{record-length, header-at, below-all}
+use Rattle.words.proofs.Digits.{below-all}
+use Rattle.station.proofs.Unpacking.{record-length, header-at}
 use Rattle.station.proofs.read.Statement.{statement}
 use Rattle.station.proofs.read.Tie as tie
 

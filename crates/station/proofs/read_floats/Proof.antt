@@ -11,7 +11,7 @@ use lib.Dec.{lit≤}
 use lib.Ieee.{Float, nan, binary32, ofBits}
 use lib.Ieee.Scale.{finite}
 use borrow.Author.Tests.{not-true, not-false}
-use Rattle.model.specs.Ranges.{finiteTo, allFinite}
+use Rattle.floats.specs.Ranges.{finiteTo, allFinite}
 use Rattle.station.specs.Record.{floatsIn, stationOf, zeros}
 use Rattle.station.specs.Answers.{floatsAnswer}
 use Rattle.station.proofs.Finite.{finite-more, finite-none}

@@ -3,7 +3,7 @@ use mathlib.Core.Path.{_≡_, sym, _∙_}
 use mathlib.Core.Bool.{true}
 use borrow.Author.Needs.{needs}
 use borrow.Author.Tests.{not-true, not-false, le-leb, lt-leb, eq-eqb, ne-eqb}
-use Rattle.model.specs.Ranges.{allFinite}
+use Rattle.floats.specs.Ranges.{allFinite}
 use Rattle.station.specs.Record.{floatsOf}
 use Rattle.station.specs.Answers.{writeOf}
 use Rattle.station.proofs.write.Statement.{statement}

@@ -1,6 +1,6 @@
 //! Runs numbered cases on all processors. A case's inputs come from its own number, so that a run can be repeated.
-use crate::report::Comparison;
 use oracle::random::Random;
+use oracle::report::Comparison;
 use std::sync::atomic::{AtomicU64, Ordering::Relaxed};
 
 /// Cases that a thread takes at a time.
@@ -32,9 +32,6 @@ pub fn run(name: &str, seed: u64, count: u64, one: impl Fn(&mut Random, &mut Com
     });
     found
 }
-
-/// What stays in a lent word where nothing is written; as a float it is finite.
-pub const LEFT: u32 = 0xA5A5_A5A5;
 
 /// The first place where two lists differ.
 pub fn first_difference(got: &[u32], expected: &[u32]) -> String {

@@ -1,7 +1,7 @@
 //! The curtain: `hf_curtain` against `curtain::gain` of the source.
 use crate::cases::{hex, run};
-use crate::report::Comparison;
 use oracle::random::Random;
+use oracle::report::Comparison;
 use oracle::{reference, service, stations};
 
 /// The factor that asks for the integral of 16,471 readings.

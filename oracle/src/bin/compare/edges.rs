@@ -1,6 +1,6 @@
 //! The elementary functions' edges that document 01 states: its own numbers, held against the oracle and against the proved library.
-use crate::report::Comparison;
 use oracle::leaf::{by_rules, Leaf};
+use oracle::report::Comparison;
 use oracle::service;
 
 const NAN: u32 = 0x7fc0_0000;

@@ -1,7 +1,8 @@
 //! Set-up, then gains: `hf_gains` against `antinit2` and `ccirgain` of the source.
-use crate::cases::{first_difference, hex, run, LEFT};
-use crate::report::Comparison;
+use crate::cases::{first_difference, hex, run};
 use oracle::random::Random;
+use oracle::report::Comparison;
+use oracle::stored::LEFT;
 use oracle::{reference, service, stations};
 
 struct Case {

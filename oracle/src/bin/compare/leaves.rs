@@ -1,7 +1,7 @@
 //! The elementary functions: `hf_leaf` and the 64-bit rules, each against document 01's words.
-use crate::report::Comparison;
 use oracle::leaf::{by_plain, by_rules, NAMES, POWF};
 use oracle::random::Random;
+use oracle::report::Comparison;
 use oracle::service;
 
 /// Where a function's domain or rule changes: their neighbours are tried too.

@@ -11,6 +11,8 @@ mod curtains;
 mod edges;
 #[cfg(source)]
 mod gains;
+#[cfg(source)]
+mod impostors;
 mod leaves;
 #[cfg(source)]
 mod maxgain;
@@ -18,12 +20,11 @@ mod maxgain;
 mod plates;
 #[cfg(source)]
 mod records;
-mod report;
 #[cfg(source)]
 mod rows;
 mod stored;
 
-use report::Comparison;
+use oracle::report::{finish, Comparison};
 
 /// A call: its name, the gate's number of cases, and its comparisons over a number of cases.
 type Call = (&'static str, u64, fn(u64) -> Vec<Comparison>);
@@ -32,6 +33,8 @@ type Call = (&'static str, u64, fn(u64) -> Vec<Comparison>);
 const CALLS: &[Call] = &[
     ("edges", 1, edges::compare),
     ("stored", 1, stored::compare),
+    #[cfg(source)]
+    ("impostors", 1, impostors::compare),
     #[cfg(source)]
     ("antenna_edges", 1, antenna_edges::compare),
     ("leaf", 5_000_000, leaves::compare),
@@ -59,15 +62,12 @@ fn chosen(word: &str) -> (Call, u64) {
 fn main() {
     if cfg!(not(source)) {
         println!(
-            "skipped: the comparisons with the source's Rust, which isn't in ../shared/docs/src; HFCAST_SRC may name its folder"
+            "skipped: the comparisons with the source's Rust, which isn't in ../shared/docs/src (HFCAST_SRC may name its folder)"
         );
+        println!("the oracle's stored answers need no source: run `replay`");
     }
     let words: Vec<String> = std::env::args().skip(1).collect();
     let all = || CALLS.iter().map(|call| (*call, call.1)).collect();
     let runs: Vec<(Call, u64)> = if words.is_empty() { all() } else { words.iter().map(|w| chosen(w)).collect() };
-    let results: Vec<bool> = runs.into_iter().flat_map(|(call, cases)| call.2(cases)).map(|c| c.passed()).collect();
-    let passed = results.iter().filter(|ok| **ok).count();
-    let failed = results.len() - passed;
-    println!("{passed} passed, {failed} failed");
-    std::process::exit(i32::from(failed > 0 || passed == 0));
+    finish(runs.into_iter().flat_map(|(call, cases)| call.2(cases)))
 }

@@ -1,8 +1,9 @@
 //! The maximum gain: `hf_maxgain` against `setmaxgain` of the source.
-use crate::cases::{first_difference, hex, run, LEFT};
-use crate::report::Comparison;
+use crate::cases::{first_difference, hex, run};
 use oracle::expected::Gains;
 use oracle::random::Random;
+use oracle::report::Comparison;
+use oracle::stored::LEFT;
 use oracle::{reference, service, stations};
 
 /// A mode of the three, mostly; the curtain's, and numbers that are none.

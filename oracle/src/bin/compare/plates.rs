@@ -1,7 +1,7 @@
 //! The whole program: `hf_plate` against the oracle's `plate`.
 use crate::cases::run;
-use crate::report::Comparison;
 use oracle::random::Random;
+use oracle::report::Comparison;
 use oracle::{broken, reference, service};
 
 /// The answers among a text's lines.

@@ -1,9 +1,10 @@
 //! The station record: `hf_read` and `hf_write` against the bit by bit ones.
-use crate::cases::{run, LEFT};
-use crate::report::Comparison;
+use crate::cases::run;
 use oracle::broken::{break_a_word, turn_a_bit};
 use oracle::random::Random;
 use oracle::record::{BYTES, WORDS};
+use oracle::report::Comparison;
+use oracle::stored::LEFT;
 use oracle::{reference, service, stations};
 
 /// A mode and 56 floats' bits, of any kind; a broken word in one of ten.

@@ -1,9 +1,10 @@
 //! Set-up into a lent table, then a row: `hf_row` against the source's 360 gains. Every lent float is compared, written or left.
-use crate::cases::{first_difference, hex, run, LEFT};
-use crate::report::Comparison;
+use crate::cases::{first_difference, hex, run};
 use oracle::expected::{ROW, TABLE};
 use oracle::leaf::bits;
 use oracle::random::Random;
+use oracle::report::Comparison;
+use oracle::stored::LEFT;
 use oracle::{broken, reference, service, stations};
 
 struct Case {

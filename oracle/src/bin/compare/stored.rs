@@ -1,11 +1,10 @@
 //! The stored stations, texts and lists of answers against those that the oracle makes now. `write_stored` writes
 //! them.
-use crate::report::Comparison;
 use oracle::examples;
 #[cfg(source)]
-use oracle::replay;
-
-const ROOT: &str = concat!(env!("CARGO_MANIFEST_DIR"), "/../");
+use oracle::lists;
+use oracle::report::Comparison;
+use oracle::stored::ROOT;
 
 fn held(name: &str, files: Vec<(String, Vec<u8>)>) -> Comparison {
     let mut found = Comparison::new(name);
@@ -22,6 +21,6 @@ pub fn compare(_: u64) -> Vec<Comparison> {
         #[cfg(source)]
         held("stored texts", examples::texts()),
         #[cfg(source)]
-        held("stored answers", replay::files()),
+        held("stored answers", lists::files()),
     ]
 }

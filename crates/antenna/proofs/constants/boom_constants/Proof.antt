@@ -1,5 +1,5 @@
 -- `antenna::constants::boom_constants` meets its contract.
-use Rattle.antenna.specs.TypeConstants.{boomConstants, waveConstants}
+use Rattle.antenna.specs.TypeConstants.{number, given, constantsWith, boomOwn, waveConstants}
 use borrow.Author.Needs.{needs}
 use Rattle.antenna.proofs.constants.boom_constants.Statement.{statement}
 use Rattle.antenna.proofs.constants.boom_constants.Tie as tie
@@ -8,7 +8,7 @@ wave-constants-requires : tie.Need-wave-constants-requires
 wave-constants-requires c κs = search needs
 
 returns : tie.Need-returns
-unfolding boomConstants waveConstants
+unfolding number given constantsWith boomOwn waveConstants
 returns c = simp (c .wave-constants .ensures)
 
 pub boom-constants-spec : {M : Type 1} → statement M

@@ -1,5 +1,5 @@
 -- `antenna::constants::crossed_constants` meets its contract.
-use Rattle.antenna.specs.TypeConstants.{crossedConstants, waveConstants}
+use Rattle.antenna.specs.TypeConstants.{number, given, constantsWith, crossedOwn, waveConstants}
 use borrow.Author.Needs.{needs}
 use Rattle.antenna.proofs.constants.crossed_constants.Statement.{statement}
 use Rattle.antenna.proofs.constants.crossed_constants.Tie as tie
@@ -20,7 +20,7 @@ cos-requires : tie.Need-cos-requires
 cos-requires c κs = search needs
 
 returns : tie.Need-returns
-unfolding crossedConstants waveConstants
+unfolding number given constantsWith crossedOwn waveConstants
 returns c = simp (c .cos .ensures, c .before .wave-constants .ensures)
 
 pub crossed-constants-spec : {M : Type 1} → statement M

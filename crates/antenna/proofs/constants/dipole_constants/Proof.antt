@@ -1,5 +1,5 @@
 -- `antenna::constants::dipole_constants` meets its contract.
-use Rattle.antenna.specs.TypeConstants.{arrayConstants, waveConstants}
+use Rattle.antenna.specs.TypeConstants.{number, given, constantsWith, arrayOwn, waveConstants}
 use borrow.Author.Needs.{needs}
 use Rattle.antenna.proofs.constants.dipole_constants.Statement.{statement}
 use Rattle.antenna.proofs.constants.dipole_constants.Tie as tie
@@ -38,7 +38,7 @@ sin-requires : tie.Need-sin-requires
 sin-requires c κs = search needs
 
 returns : tie.Need-returns
-unfolding arrayConstants waveConstants
+unfolding number given constantsWith arrayOwn waveConstants
 returns c = simp (c .sin .ensures, c .before .cos2 .ensures, c .before .before .cos .ensures, c .before .before .before .truncated .ensures, c .before .before .before .before .wave-constants .ensures)
 
 pub dipole-constants-spec : {M : Type 1} → statement M

@@ -1,5 +1,5 @@
 -- `antenna::constants::rhombic_constants` meets its contract.
-use Rattle.antenna.specs.TypeConstants.{rhombicConstants, waveConstants}
+use Rattle.antenna.specs.TypeConstants.{number, given, constantsWith, rhombicOwn, waveConstants}
 use borrow.Author.Needs.{needs}
 use Rattle.antenna.proofs.constants.rhombic_constants.Statement.{statement}
 use Rattle.antenna.proofs.constants.rhombic_constants.Tie as tie
@@ -23,7 +23,7 @@ cos-requires : tie.Need-cos-requires
 cos-requires c κs = search needs
 
 returns : tie.Need-returns
-unfolding rhombicConstants waveConstants
+unfolding number given constantsWith rhombicOwn waveConstants
 returns c = simp (c .cos .ensures, c .before .sin .ensures, c .before .before .before .before .wave-constants .ensures)
 
 pub rhombic-constants-spec : {M : Type 1} → statement M

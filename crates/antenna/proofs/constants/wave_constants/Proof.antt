@@ -1,5 +1,5 @@
 -- `antenna::constants::wave_constants` meets its contract.
-use Rattle.antenna.specs.TypeConstants.{waveConstants}
+use Rattle.antenna.specs.TypeConstants.{number, given, constantsWith, waveConstants}
 use borrow.Author.Needs.{needs}
 use Rattle.antenna.proofs.constants.wave_constants.Statement.{statement}
 use Rattle.antenna.proofs.constants.wave_constants.Tie as tie
@@ -17,7 +17,7 @@ array-read-t15 : tie.Need-array-read-t15
 array-read-t15 c = search needs
 
 returns : tie.Need-returns
-unfolding waveConstants
+unfolding number given constantsWith waveConstants
 returns c = simp (← c .wavelength .ensures)
 
 pub wave-constants-spec : {M : Type 1} → statement M

@@ -1,23 +1,24 @@
 -- `antenna::copy::lay_over` meets its contract.
-use mathlib.Core.Path.{_≡_, refl, _∙_}
+use mathlib.Core.Path.{_≡_, refl, ap, _∙_}
 use native.Mathlib.Omega.{arith}
-use Prim.Native.Nat.{_≤_, _-_}
-use mathlib.Core.List.{_++_}
+use Prim.Native.Nat.{ℕ, _+_, _≤_, _-_}
 use native.Mathlib.Numerals.{add-one}
-use lib.ListN.{length, take, drop, length-set}
+use lib.ListN.{length, getD, set, length-set}
+use lib.Ieee.{nan}
+use lib.Seq.{paste, paste-zero, paste-suc}
 use denote.Ref.{now}
-use Rattle.antenna.proofs.Copies.{overlay-suc, overlay-all}
+use Rattle.words.proofs.Laid.{laid-pasted}
 use Rattle.antenna.proofs.copy.lay_over.Statement.{statement}
 use Rattle.antenna.proofs.copy.lay_over.Tie as tie
 
 abbrev Inv-loop : tie.InvT-loop
-Inv-loop t lent₀ i₀ lent i = (lent ≡ take i t ++ drop i lent₀) × (length lent ≡ length lent₀) × (i ≤ length t)
+Inv-loop t lent₀ i₀ lent i = (lent ≡ paste lent₀ 0 t i) × (length lent ≡ length lent₀) × (i ≤ length t)
 
 abbrev μ-loop : tie.MeasureT-loop
 μ-loop t lent₀ i₀ lent i = length t - i
 
 loop-holds : tie.Need-loop-holds Inv-loop μ-loop
-loop-holds c = (refl, refl, omega arith)
+loop-holds c = (paste-zero (now (c .args .lent)) 0 (now (c .args .t)), refl, omega arith)
 
 mul-lent : tie.Need-mul-lent Inv-loop μ-loop
 mul-lent c = omega arith
@@ -40,8 +41,12 @@ loop-less c = omega arith
 loop-again : tie.Need-loop-again Inv-loop μ-loop
 loop-again c =
     let a = c .before .before .before .args in
-    let h = overlay-suc (now (a .t)) (now (a .lent)) (c .before .before .loop .i) (omega arith) (omega arith) in
-    (rw (c .before .before .loop .inv .0, add-one) h, rw length-set (c .before .before .loop .inv .1), omega arith)
+    let head = c .before .before .loop in
+    let from : head .i ≡ 0 + head .i = omega arith in
+    let turn =
+    ap (λ (k : ℕ). set (paste (now (a .lent)) 0 (now (a .t)) (head .i)) k (getD (now (a .t)) (head .i) nan)) from
+    ∙ paste-suc (now (a .lent)) 0 (now (a .t)) (head .i) nan (omega arith) (omega arith) in
+    (rw (head .inv .0, add-one) turn, rw length-set (head .inv .1), omega arith)
 
 same-length : tie.Need-same-length Inv-loop μ-loop
 same-length c = c .before .loop .inv .1
@@ -49,7 +54,7 @@ same-length c = c .before .loop .inv .1
 returns : tie.Need-returns Inv-loop μ-loop
 returns c =
     let a = c .before .before .args in
-    c .before .loop .inv .0 ∙ overlay-all (now (a .t)) (now (a .lent)) (c .before .loop .i) (omega arith)
+    c .before .loop .inv .0 ∙ laid-pasted (now (a .lent)) 0 (now (a .t)) (c .before .loop .i) (omega arith)
 
 pub lay-over-spec : {M : Type 1} → statement M
 lay-over-spec =

@@ -1,6 +1,5 @@
 -- `antenna::limits::band_ok` meets its contract.
 use Rattle.antenna.specs.Limits.{bandOk}
-use borrow.Author.Tests.{le-leb, lt-leb}
 use borrow.Author.Needs.{needs}
 use Rattle.antenna.proofs.limits.band_ok.Statement.{statement}
 use Rattle.antenna.proofs.limits.band_ok.Tie as tie
@@ -11,44 +10,12 @@ array-read-in-band c = search needs
 in-band-requires : tie.Need-in-band-requires
 in-band-requires c κs = search needs
 
-array-type-requires : tie.Need-array-type-requires
-array-type-requires c κs = search needs
-
-array-read-in-band-2 : tie.Need-array-read-in-band-2
-array-read-in-band-2 c = search needs
-
-in-band-requires-2 : tie.Need-in-band-requires-2
-in-band-requires-2 c κs = search needs
+design-ok-requires : tie.Need-design-ok-requires
+design-ok-requires c κs = search needs
 
 returns : tie.Need-returns
 unfolding bandOk
-returns c = simp (← c .in-band2 .ensures, c .before .if1 .taken, ← c .before .before .array-type .ensures, ← c .before .before .before .in-band .ensures)
-
-array-read-in-band-3 : tie.Need-array-read-in-band-3
-array-read-in-band-3 c = search needs
-
-in-band-requires-3 : tie.Need-in-band-requires-3
-in-band-requires-3 c κs = search needs
-
-returns-2 : tie.Need-returns-2
-unfolding bandOk
-returns-2 c = simp (← c .in-band3 .ensures, le-leb _ _ (c .before .if2 .taken), c .before .before .if1 .left, ← c .before .before .before .array-type .ensures, ← c .before .before .before .before .in-band .ensures)
-
-returns-3 : tie.Need-returns-3
-unfolding bandOk
-returns-3 c = simp (lt-leb _ _ (c .if2 .left), c .before .if1 .left, ← c .before .before .array-type .ensures, ← c .before .before .before .in-band .ensures)
+returns c = simp (← c .design-ok .ensures, ← c .before .in-band .ensures)
 
 pub band-ok-spec : {M : Type 1} → statement M
-band-ok-spec =
-    tie.close
-    (tie.spec
-    array-read-in-band
-    in-band-requires
-    array-type-requires
-    array-read-in-band-2
-    in-band-requires-2
-    returns
-    array-read-in-band-3
-    in-band-requires-3
-    returns-2
-    returns-3)
+band-ok-spec = tie.close (tie.spec array-read-in-band in-band-requires design-ok-requires returns)

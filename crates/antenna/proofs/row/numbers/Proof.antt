@@ -5,7 +5,7 @@ use native.Mathlib.Omega.{arith}
 use Prim.Native.Nat.{_≤_, _-_}
 use native.Mathlib.Numerals.{add-one}
 use Rattle.antenna.specs.Gain.{numberAt}
-use Rattle.model.specs.Filled.{filledTo}
+use Rattle.floats.specs.Filled.{filledTo}
 use Rattle.antenna.specs.Row.{rowTo}
 use Rattle.antenna.proofs.row.numbers.Statement.{statement}
 use Rattle.antenna.proofs.row.numbers.Tie as tie

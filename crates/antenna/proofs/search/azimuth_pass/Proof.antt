@@ -4,7 +4,7 @@ use Prim.Native.Nat.{_+_, _≤_, _-_}
 use native.Mathlib.Omega.{arith}
 use native.Mathlib.Numerals.{add-one}
 use Rattle.antenna.specs.Search.{met, noted, steps, azimuthStep}
-use Rattle.antenna.proofs.Readings.{plateau-grows}
+use Rattle.antenna.proofs.search.Readings.{plateau-grows}
 use Rattle.antenna.proofs.search.azimuth_pass.Statement.{statement}
 use Rattle.antenna.proofs.search.azimuth_pass.Tie as tie
 

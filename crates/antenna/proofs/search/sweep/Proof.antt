@@ -5,7 +5,7 @@ use native.Mathlib.Omega.{arith}
 use native.Mathlib.Numerals.{add-one}
 use borrow.Author.Needs.{needs}
 use Rattle.antenna.specs.Search.{met, steps, sweepStep}
-use Rattle.antenna.proofs.Readings.{noted-counts}
+use Rattle.antenna.proofs.search.Readings.{noted-counts}
 use Rattle.antenna.proofs.search.sweep.Statement.{statement}
 use Rattle.antenna.proofs.search.sweep.Tie as tie
 

@@ -8,10 +8,10 @@ use lib.Ieee.Casts.{toSigned-in}
 use mir.Syntax.{w32}
 use mir.Val.{toZ, ofZ}
 use mir.ValLaws.{toZ-ofZ}
-use Rattle.model.specs.Angle.{natural}
-use Rattle.model.proofs.Naturals.{below-zero, from-zero, castable}
+use Rattle.floats.specs.Rounding.{natural}
+use Rattle.floats.proofs.Naturals.{below-zero, from-zero, castable}
 use Rattle.antenna.specs.Search.{turnsIn}
-use Rattle.antenna.proofs.Readings.{natural-below}
+use Rattle.antenna.proofs.search.Readings.{natural-below}
 use Rattle.antenna.proofs.search.turns_in.Statement.{statement}
 use Rattle.antenna.proofs.search.turns_in.Tie as tie
 

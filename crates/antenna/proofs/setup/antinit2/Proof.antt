@@ -4,7 +4,8 @@ use denote.Ref.{now}
 use mathlib.Core.Path.{_≡_, sym, _∙_}
 use native.Mathlib.Omega.{arith}
 use lib.ListN.{length}
-use Rattle.antenna.proofs.Accepted.{accepted-limits, refused-lent, accepted-lent, set-up-refused, set-up-found, found-refused, found-accepted}
+use Rattle.answers.specs.Refusals.{PATTERN}
+use Rattle.antenna.proofs.setup.Accepted.{accepted-limits, refused-lent, accepted-lent, set-up-refused, set-up-found, found-refused, found-accepted}
 use Rattle.antenna.proofs.setup.antinit2.Statement.{statement}
 use Rattle.antenna.proofs.setup.antinit2.Tie as tie
 
@@ -22,9 +23,11 @@ refuse-requires c κs = search needs
 
 returns : tie.Need-returns
 returns c =
-    let a = c .before .before .before .before .before .args in
-    let r = set-up-refused (a .t1) (length (now (a .lent))) _ _ (c .before .before .before .jant .ensures) (c .before .before .refusal .ensures) (c .before .if1 .taken) in
-    (c .refuse .ensures ∙ sym r, refused-lent (a .t1) (now (a .lent)) _ r)
+    let asked = c .before in
+    let p = asked .before .before .before .before .args .t1 in
+    let lent = now (asked .before .before .before .before .args .lent) in
+    let r = set-up-refused p (length lent) _ _ (asked .before .before .jant .ensures) (asked .before .refusal .ensures) (asked .if1 .taken) in
+    (c .refuse .ensures ∙ sym r, refused-lent p lent _ r)
 
 model-of-requires : tie.Need-model-of-requires
 model-of-requires c κs =
@@ -51,21 +54,25 @@ refuse-requires-2 c κs = search needs
 
 returns-2 : tie.Need-returns-2
 returns-2 c =
-    let a = c .before .before .before .before .before .before .before .before .before .before .before .before .args in
+    let search = c .before .before .before in
+    let asked = search .before .before .before .before .before in
+    let p = asked .before .before .before .before .args .t1 in
+    let lent = now (asked .before .before .before .before .args .lent) in
     let s =
-    set-up-found (a .t1) (length (now (a .lent))) _ _ (c .before .before .before .before .before .before .before .before .before .before .jant .ensures) (c .before .before .before .before .before .before .before .before .before .refusal .ensures)
-    _ (c .before .before .before .gainorm .result) (c .before .before .before .before .before .before .before .before .if1 .left) (c .before .before .before .before .before .before .before .model-of .ensures .0)
-    (rw (c .before .before .before .gainorm .ensures, c .before .before .before .before .before .before .table-of .ensures, c .before .before .before .before .start-of .ensures)) in
+    set-up-found p (length lent) _ _ (asked .before .before .jant .ensures) (asked .before .refusal .ensures)
+    _ (search .gainorm .result) (asked .if1 .left) (search .before .before .before .before .model-of .ensures .0)
+    (rw (search .gainorm .ensures, search .before .before .before .table-of .ensures, search .before .start-of .ensures)) in
     let r = s ∙ found-refused _ _ _ (c .before .before .search-refused .ensures) (c .before .if2 .taken) in
-    (c .refuse2 .ensures ∙ sym r, refused-lent (a .t1) (now (a .lent)) 9 r)
+    (c .refuse2 .ensures ∙ sym r, refused-lent p lent PATTERN r)
 
 slice-aggregate-lay-over : tie.Need-slice-aggregate-lay-over
 slice-aggregate-lay-over c = search needs
 
 lay-over-requires : tie.Need-lay-over-requires
 lay-over-requires c κs =
-    let n : c .before .before .before .before .before .before .before .before .before .before .refusal .result ≡ 0 = omega (arith, c .before .before .before .before .before .before .before .before .before .if1 .left) in
-    let ok = accepted-limits _ _ _ (sym (c .before .before .before .before .before .before .before .before .before .before .refusal .ensures) ∙ n) in
+    let asked = c .before .before .before .before .before .before .before .before .before in
+    let n : asked .before .refusal .result ≡ 0 = omega (arith, asked .if1 .left) in
+    let ok = accepted-limits _ _ _ (sym (asked .before .refusal .ensures) ∙ n) in
     omega (arith, ok .1, c .before .before .before .before .before .before .before .table-of .ok)
 
 accept-requires : tie.Need-accept-requires
@@ -76,15 +83,16 @@ same-length c = search needs
 
 returns-3 : tie.Need-returns-3
 returns-3 c =
-    let a = c .before .before .before .before .before .before .before .before .before .before .before .before .before .before .before .before .before .args in
+    let search = c .before .before .before .before .before .before .before .before in
+    let asked = search .before .before .before .before .before in
+    let p = asked .before .before .before .before .args .t1 in
+    let lent = now (asked .before .before .before .before .args .lent) in
     let s =
-    set-up-found (a .t1) (length (now (a .lent))) _ _ (c .before .before .before .before .before .before .before .before .before .before .before .before .before .before .before .jant .ensures) (c .before .before .before .before .before .before .before .before .before .before .before .before .before .before .refusal .ensures)
-    _ (c .before .before .before .before .before .before .before .before .gainorm .result) (c .before .before .before .before .before .before .before .before .before .before .before .before .before .if1 .left) (c .before .before .before .before .before .before .before .before .before .before .before .before .model-of .ensures .0)
-    (rw (c .before .before .before .before .before .before .before .before .gainorm .ensures, c .before .before .before .before .before .before .before .before .before .before .before .table-of .ensures, c .before .before .before .before .before .before .before .before .before .start-of .ensures)) in
-    let r = s ∙ found-accepted _ _ _ (c .before .before .before .before .before .before .before .search-refused .ensures) (c .before .before .before .before .before .before .if2 .left) in (
-      c .accept .ensures ∙ sym r,
-      c .before .before .before .lay-over .ensures ∙ accepted-lent (a .t1) (now (a .lent)) _ _ _ (c .before .before .before .before .before .before .before .before .before .before .before .table-of .ensures) r,
-    )
+    set-up-found p (length lent) _ _ (asked .before .before .jant .ensures) (asked .before .refusal .ensures)
+    _ (search .gainorm .result) (asked .if1 .left) (search .before .before .before .before .model-of .ensures .0)
+    (rw (search .gainorm .ensures, search .before .before .before .table-of .ensures, search .before .start-of .ensures)) in
+    let r = s ∙ found-accepted _ _ _ (c .before .before .before .before .before .before .before .search-refused .ensures) (c .before .before .before .before .before .before .if2 .left) in
+    (c .accept .ensures ∙ sym r, c .before .before .before .lay-over .ensures ∙ accepted-lent p lent _ _ _ (search .before .before .before .table-of .ensures) r)
 
 pub antinit2-spec : {M : Type 1} → statement M
 antinit2-spec =

@@ -3,9 +3,9 @@ use borrow.Author.Needs.{needs}
 use mathlib.Core.Path.{refl, sym, _∙_}
 use native.Mathlib.Omega.{arith}
 use Rattle.model.specs.Counts.{elementsOk}
-use Rattle.antenna.specs.TypeConstants.{waveConstants}
+use Rattle.antenna.specs.TypeConstants.{number, given, constantsWith, waveConstants}
 use Rattle.antenna.specs.SetUp.{noElements, elementsOf}
-use Rattle.antenna.proofs.Accepted.{nel-bounds}
+use Rattle.antenna.proofs.setup.Accepted.{nel-bounds}
 use Rattle.antenna.proofs.setup.elements_of.Statement.{statement}
 use Rattle.antenna.proofs.setup.elements_of.Tie as tie
 
@@ -33,7 +33,7 @@ logparm-requires c κs =
     rw (c .before .before .before .to-usize .ensures) (nel-bounds _ _ l (c .before .before .before .before .before .before .pre))
 
 returns : tie.Need-returns
-unfolding elementsOf waveConstants
+unfolding elementsOf number given constantsWith waveConstants
 returns c = (
   simp (
     c .logparm .ensures .0,

@@ -1,7 +1,7 @@
 -- `antenna::setup::model_of` meets its contract.
 use borrow.Author.Needs.{needs}
 use Rattle.antenna.specs.SetUp.{modelOf}
-use Rattle.antenna.proofs.Accepted.{constant-counts, counts-made}
+use Rattle.antenna.proofs.setup.Accepted.{constant-counts, counts-made}
 use Rattle.antenna.proofs.setup.model_of.Statement.{statement}
 use Rattle.antenna.proofs.setup.model_of.Tie as tie
 

@@ -1,6 +1,6 @@
 -- `antenna::whole::not_zero` meets its contract.
 use borrow.Author.Needs.{needs}
-use Rattle.model.proofs.WholeNumbers.{back}
+use Rattle.floats.proofs.WholeNumbers.{back}
 use Rattle.antenna.specs.Whole.{nonZero}
 use Rattle.antenna.proofs.whole.not_zero.Statement.{statement}
 use Rattle.antenna.proofs.whole.not_zero.Tie as tie

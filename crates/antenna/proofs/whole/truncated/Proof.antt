@@ -1,6 +1,6 @@
 -- `antenna::whole::truncated` meets its contract.
 use borrow.Author.Needs.{needs}
-use Rattle.model.proofs.WholeNumbers.{back}
+use Rattle.floats.proofs.WholeNumbers.{back}
 use Rattle.antenna.proofs.whole.truncated.Statement.{statement}
 use Rattle.antenna.proofs.whole.truncated.Tie as tie
 

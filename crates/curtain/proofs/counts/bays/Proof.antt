@@ -4,7 +4,7 @@ use native.Mathlib.Omega.{arith}
 use lib.IntN.{natAbs}
 use mir.Syntax.{w32}
 use mir.ValLaws.{toZ-ofZ}
-use Rattle.model.specs.Angle.{nintOf}
+use Rattle.floats.specs.Rounding.{nintOf}
 use borrow.Author.Needs.{needs}
 use Rattle.curtain.proofs.counts.bays.Statement.{statement}
 use Rattle.curtain.proofs.counts.bays.Tie as tie

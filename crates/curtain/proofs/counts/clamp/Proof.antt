@@ -1,6 +1,6 @@
 -- `curtain::counts::clamp` meets its contract.
 use native.Mathlib.Omega.{arith}
-use Rattle.model.specs.Angle.{jantOf}
+use Rattle.model.specs.Types.{jantOf}
 use borrow.Author.Needs.{needs}
 use Rattle.curtain.proofs.counts.clamp.Statement.{statement}
 use Rattle.curtain.proofs.counts.clamp.Tie as tie

@@ -8,7 +8,7 @@ use mir.Syntax.{w32}
 use mir.Val.{SFits, toZ, ofZ}
 use mir.ValLaws.{toZ-ofZ, toZ-pos}
 use Rattle.curtain.specs.Excitation.{phaseAt, slewStep, bayphs}
-use Rattle.curtain.proofs.Signed.{zero-minus, negated-fits, signed-below, signed-from}
+use Rattle.curtain.proofs.excitation.Signed.{zero-minus, negated-fits, signed-below, signed-from}
 use Rattle.curtain.proofs.excitation.bay_phase.Statement.{statement}
 use Rattle.curtain.proofs.excitation.bay_phase.Tie as tie
 

@@ -2,6 +2,7 @@
 use mathlib.Core.Path.{refl}
 use Rattle.curtain.specs.Excitation.{stkrat}
 use borrow.Author.Needs.{needs}
+use lib.Ieee.{ofBits, neg}
 use Rattle.curtain.proofs.excitation.stack_ratio.Statement.{statement}
 use Rattle.curtain.proofs.excitation.stack_ratio.Tie as tie
 
@@ -21,7 +22,7 @@ index-2-result : tie.Need-index-2-result
 index-2-result c = search needs
 
 returns : tie.Need-returns
-unfolding stkrat
+unfolding stkrat ofBits neg
 returns c = refl
 
 pub stack-ratio-spec : {M : Type 1} → statement M

@@ -4,8 +4,8 @@ use mathlib.Core.Path.{_≡_}
 use mir.Syntax.{w32, w64}
 use mir.Val.{toZ, ofZ}
 use mir.ValLaws.{toZ-ofZ}
-use Rattle.model.proofs.Naturals.{castable}
-use Rattle.curtain.proofs.Signed.{zero-minus, Turned, turned}
+use Rattle.floats.proofs.Naturals.{castable}
+use Rattle.curtain.proofs.excitation.Signed.{zero-minus, Turned, turned}
 use Rattle.curtain.proofs.excitation.unsigned_abs.Statement.{statement}
 use Rattle.curtain.proofs.excitation.unsigned_abs.Tie as tie
 

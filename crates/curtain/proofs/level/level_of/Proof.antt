@@ -1,6 +1,5 @@
 -- `curtain::level::level_of` meets its contract.
 use Rattle.curtain.specs.Level.{levelOf}
-use Rattle.curtain.proofs.Counted.{counted}
 use borrow.Author.Needs.{needs}
 use Rattle.curtain.proofs.level.level_of.Statement.{statement}
 use Rattle.curtain.proofs.level.level_of.Tie as tie
@@ -9,13 +8,13 @@ curtain-of-requires : tie.Need-curtain-of-requires
 curtain-of-requires c κs = search needs
 
 factor-of-requires : tie.Need-factor-of-requires
-factor-of-requires c κs = rw (c .curtain-of .ensures) (counted _)
+factor-of-requires c κs = search needs
 
 fold-requires : tie.Need-fold-requires
 fold-requires c κs = search needs
 
 f2-requires : tie.Need-f2-requires
-f2-requires c κs = rw (c .before .before .curtain-of .ensures) (counted _)
+f2-requires c κs = search needs
 
 decibels-requires : tie.Need-decibels-requires
 decibels-requires c κs = search needs
@@ -25,11 +24,11 @@ behind-requires c κs = search needs
 
 returns : tie.Need-returns
 unfolding levelOf
-returns c = simp (← c .before .before .before .before .before .before .curtain-of .ensures, ← c .before .before .before .before .before .factor-of .ensures, ← c .before .before .before .before .fold .ensures, ← c .before .before .before .f2 .ensures, ← c .before .before .decibels .ensures, ← c .before .behind .ensures, c .if1 .taken)
+returns c = simp (← c .before .before .before .before .before .before .curtain-of .ensures .0, ← c .before .before .before .before .before .factor-of .ensures, ← c .before .before .before .before .fold .ensures, ← c .before .before .before .f2 .ensures, ← c .before .before .decibels .ensures, ← c .before .behind .ensures, c .if1 .taken)
 
 returns-2 : tie.Need-returns-2
 unfolding levelOf
-returns-2 c = simp (← c .before .before .before .before .before .before .curtain-of .ensures, ← c .before .before .before .before .before .factor-of .ensures, ← c .before .before .before .before .fold .ensures, ← c .before .before .before .f2 .ensures, ← c .before .before .decibels .ensures, ← c .before .behind .ensures, c .if1 .left)
+returns-2 c = simp (← c .before .before .before .before .before .before .curtain-of .ensures .0, ← c .before .before .before .before .before .factor-of .ensures, ← c .before .before .before .before .fold .ensures, ← c .before .before .before .f2 .ensures, ← c .before .before .decibels .ensures, ← c .before .behind .ensures, c .if1 .left)
 
 pub level-of-spec : {M : Type 1} → statement M
 level-of-spec =

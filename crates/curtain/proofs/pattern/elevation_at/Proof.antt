@@ -1,5 +1,5 @@
 -- `curtain::pattern::elevation_at` meets its contract.
-use Rattle.curtain.specs.Pattern.{elevationOf}
+use Rattle.curtain.specs.PatternSteps.{elevationOf}
 use borrow.Author.Needs.{needs}
 use Rattle.curtain.proofs.pattern.elevation_at.Statement.{statement}
 use Rattle.curtain.proofs.pattern.elevation_at.Tie as tie

@@ -1,5 +1,5 @@
 -- `curtain::pattern::f2_at` meets its contract.
-use Rattle.curtain.specs.Pattern.{f2At}
+use Rattle.curtain.specs.PatternSteps.{f2At}
 use borrow.Author.Needs.{needs}
 use Rattle.curtain.proofs.pattern.f2_at.Statement.{statement}
 use Rattle.curtain.proofs.pattern.f2_at.Tie as tie

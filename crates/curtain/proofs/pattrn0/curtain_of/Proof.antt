@@ -1,4 +1,5 @@
 -- `curtain::pattrn0::curtain_of` meets its contract.
+use native.Mathlib.Omega.{arith}
 use mir.Syntax.{w32}
 use mir.ValLaws.{toZ-ofZ}
 use Rattle.curtain.specs.Pattrn0.{nostakOf, nbsOf, modeOf, islewOf, odratOf, curtainOf}
@@ -36,11 +37,8 @@ array-read-odrat-2 c = search needs
 cos-requires : tie.Need-cos-requires
 cos-requires c κs = search needs
 
-stack-ratios-requires : tie.Need-stack-ratios-requires
-stack-ratios-requires c κs = search needs
-
-stack-heights-requires : tie.Need-stack-heights-requires
-stack-heights-requires c κs = search needs
+stacks-of-requires : tie.Need-stacks-of-requires
+stacks-of-requires c κs = search needs
 
 array-read-nint : tie.Need-array-read-nint
 array-read-nint c = search needs
@@ -48,18 +46,16 @@ array-read-nint c = search needs
 nint-requires : tie.Need-nint-requires
 nint-requires c κs = search needs
 
-bay-phases-requires : tie.Need-bay-phases-requires
-bay-phases-requires c κs = search needs
-
-bay-ratios-requires : tie.Need-bay-ratios-requires
-bay-ratios-requires c κs = search needs
-
-bay-places-requires : tie.Need-bay-places-requires
-bay-places-requires c κs = search needs
+bays-of-requires : tie.Need-bays-of-requires
+bays-of-requires c κs = search needs
 
 returns : tie.Need-returns
 unfolding curtainOf nostakOf nbsOf modeOf islewOf odratOf
-returns c = rw (c .bay-places .ensures, c .before .bay-ratios .ensures, c .before .before .bay-phases .ensures, toZ-ofZ w32 _ (record { sfits = c .before .before .before .nint .ok }), c .before .before .before .nint .ensures, c .before .before .before .before .stack-heights .ensures, c .before .before .before .before .before .stack-ratios .ensures, c .before .before .before .before .before .before .cos .ensures, c .before .before .before .before .before .before .before .before .bays .ensures, c .before .before .before .before .before .before .before .before .before .clamp2 .ensures, c .before .before .before .before .before .before .before .before .before .before .clamp .ensures, c .before .before .before .before .before .before .before .before .before .before .before .lengths-of .ensures)
+returns c =
+    let bays = c .before .before .before .bays-of .ensures in
+    let slew = c .before .before .before .before .nint in
+    let stacks = c .before .before .before .before .before .before .before .stacks-of .ensures in
+    (rw (bays .1 .1, bays .1 .0, bays .0, toZ-ofZ w32 _ (record { sfits = slew .ok }), slew .ensures, stacks .1, stacks .0, c .before .before .before .before .before .before .before .before .cos .ensures, c .before .before .before .before .before .before .before .before .before .before .bays .ensures, c .before .before .before .before .before .before .before .before .before .before .before .clamp2 .ensures, c .before .before .before .before .before .before .before .before .before .before .before .before .clamp .ensures, c .before .before .before .before .before .before .before .before .before .before .before .before .before .lengths-of .ensures), omega arith)
 
 pub curtain-of-spec : {M : Type 1} → statement M
 curtain-of-spec =
@@ -75,11 +71,8 @@ curtain-of-spec =
     array-read-odrat
     array-read-odrat-2
     cos-requires
-    stack-ratios-requires
-    stack-heights-requires
+    stacks-of-requires
     array-read-nint
     nint-requires
-    bay-phases-requires
-    bay-ratios-requires
-    bay-places-requires
+    bays-of-requires
     returns)

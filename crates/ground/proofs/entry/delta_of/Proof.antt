@@ -1,3 +1,4 @@
+-- `ground::entry::delta_of` meets its contract.
 use borrow.Author.Tests.{eq-eqb, ne-eqb}
 use Rattle.ground.specs.Table.{deltaOf}
 use Rattle.ground.proofs.entry.delta_of.Statement.{statement}

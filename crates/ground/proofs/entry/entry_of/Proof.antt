@@ -1,3 +1,4 @@
+-- `ground::entry::entry_of` meets its contract.
 use borrow.Author.Tests.{eq-eqb, ne-eqb}
 use Rattle.ground.specs.Table.{entryOf}
 use borrow.Author.Needs.{needs}

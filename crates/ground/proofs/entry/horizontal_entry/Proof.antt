@@ -1,3 +1,4 @@
+-- `ground::entry::horizontal_entry` meets its contract.
 use mathlib.Core.Path.{refl}
 use Rattle.ground.specs.Table.{horizontalEntry}
 use Rattle.ground.proofs.entry.horizontal_entry.Statement.{statement}

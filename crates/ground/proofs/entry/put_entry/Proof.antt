@@ -1,7 +1,5 @@
-use Prim.Native.Nat.{_+_, _*_}
-use mathlib.Core.Path.{_≡_}
-use native.Mathlib.Omega.{arith}
-use Rattle.model.specs.Table.{cell}
+-- `ground::entry::put_entry` meets its contract.
+use Rattle.model.proofs.Cells.{cell-0, cell-1, cell-2, cell-3}
 use Rattle.ground.specs.Table.{withEntry}
 use borrow.Author.Needs.{needs}
 use Rattle.ground.proofs.entry.put_entry.Statement.{statement}
@@ -28,33 +26,33 @@ mul-t-2 c = search needs
 element-write-t-2 : tie.Need-element-write-t-2
 element-write-t-2 c = search needs
 
+mul-t-3 : tie.Need-mul-t-3
+mul-t-3 c = search needs
+
 add-t-2 : tie.Need-add-t-2
 add-t-2 c = search needs
 
-mul-t-3 : tie.Need-mul-t-3
-mul-t-3 c = search needs
+mul-t-4 : tie.Need-mul-t-4
+mul-t-4 c = search needs
 
 element-write-t-3 : tie.Need-element-write-t-3
 element-write-t-3 c = search needs
 
+mul-t-5 : tie.Need-mul-t-5
+mul-t-5 c = search needs
+
 add-t-3 : tie.Need-add-t-3
 add-t-3 c = search needs
 
-mul-t-4 : tie.Need-mul-t-4
-mul-t-4 c = search needs
+mul-t-6 : tie.Need-mul-t-6
+mul-t-6 c = search needs
 
 element-write-t-4 : tie.Need-element-write-t-4
 element-write-t-4 c = search needs
 
 returns : tie.Need-returns
 unfolding withEntry
-returns c =
-    let a = c .args in
-    let e0 : cell 0 (a .u) (a .i) ≡ a .u * 31 + a .i = omega arith in
-    let e1 : cell 1 (a .u) (a .i) ≡ a .u * 31 + a .i + 2821 = omega arith in
-    let e2 : cell 2 (a .u) (a .i) ≡ a .u * 31 + a .i + 5642 = omega arith in
-    let e3 : cell 3 (a .u) (a .i) ≡ a .u * 31 + a .i + 8463 = omega arith in
-    rw (e0, e1, e2, e3)
+returns c = rw (cell-0, cell-1, cell-2, cell-3)
 
 pub put-entry-spec : {M : Type 1} → statement M
 put-entry-spec =
@@ -67,10 +65,12 @@ put-entry-spec =
     add-t
     mul-t-2
     element-write-t-2
-    add-t-2
     mul-t-3
-    element-write-t-3
-    add-t-3
+    add-t-2
     mul-t-4
+    element-write-t-3
+    mul-t-5
+    add-t-3
+    mul-t-6
     element-write-t-4
     returns)

@@ -1,3 +1,4 @@
+-- `ground::entry::vertical_entry` meets its contract.
 use mathlib.Core.Path.{refl}
 use Rattle.ground.specs.Table.{verticalEntry}
 use Rattle.ground.proofs.entry.vertical_entry.Statement.{statement}

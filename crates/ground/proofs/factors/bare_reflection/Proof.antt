@@ -1,3 +1,4 @@
+-- `ground::factors::bare_reflection` meets its contract.
 use mathlib.Core.Path.{refl}
 use Rattle.ground.specs.Ground.{bare}
 use Rattle.ground.proofs.factors.bare_reflection.Statement.{statement}

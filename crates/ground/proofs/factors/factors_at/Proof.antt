@@ -1,3 +1,4 @@
+-- `ground::factors::factors_at` meets its contract.
 use Rattle.ground.specs.Ground.{factorsAt}
 use borrow.Author.Tests.{eq-eqb, ne-eqb}
 use borrow.Author.Needs.{needs}

@@ -1,3 +1,4 @@
+-- `ground::factors::mix` meets its contract.
 use mathlib.Core.Path.{refl}
 use Rattle.ground.specs.Ground.{mixed}
 use Rattle.ground.proofs.factors.mix.Statement.{statement}

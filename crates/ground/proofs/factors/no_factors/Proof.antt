@@ -1,3 +1,4 @@
+-- `ground::factors::no_factors` meets its contract.
 use mathlib.Core.Path.{refl}
 use Rattle.ground.specs.Ground.{noFactors}
 use Rattle.ground.proofs.factors.no_factors.Statement.{statement}

@@ -1,3 +1,4 @@
+-- `ground::factors::one_dipole` meets its contract.
 use Rattle.ground.specs.Ground.{single}
 use borrow.Author.Needs.{needs}
 use Rattle.ground.proofs.factors.one_dipole.Statement.{statement}

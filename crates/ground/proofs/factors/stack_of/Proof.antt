@@ -1,4 +1,5 @@
-use Rattle.model.proofs.WholeNumbers.{back-nint}
+-- `ground::factors::stack_of` meets its contract.
+use Rattle.floats.proofs.WholeNumbers.{back-nint}
 use Rattle.ground.specs.Ground.{stackOf}
 use borrow.Author.Tests.{le-leb, lt-leb}
 use borrow.Author.Needs.{needs}

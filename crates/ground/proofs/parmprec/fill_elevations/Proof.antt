@@ -1,3 +1,4 @@
+-- `ground::parmprec::fill_elevations` meets its contract.
 use mathlib.Core.Path.{_≡_, refl}
 use native.Mathlib.Omega.{arith}
 use Prim.Native.Nat.{_-_, _≤_}

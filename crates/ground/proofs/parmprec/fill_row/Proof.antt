@@ -1,3 +1,4 @@
+-- `ground::parmprec::fill_row` meets its contract.
 use mathlib.Core.Path.{_≡_, refl}
 use native.Mathlib.Omega.{arith}
 use Prim.Native.Nat.{ℕ, _-_, _≤_}
@@ -5,7 +6,7 @@ use native.Mathlib.Numerals.{add-one}
 use borrow.Author.Needs.{needs}
 use lib.ListN.{getD}
 use lib.Ieee.{nan}
-use Rattle.model.specs.Ops.{_⊗_}
+use Rattle.floats.specs.Ops.{_⊗_}
 use Rattle.model.proofs.ActiveElements.{active-below}
 use Rattle.ground.specs.Table.{entryOf, rowTo}
 use Rattle.ground.proofs.parmprec.fill_row.Statement.{statement}

@@ -1,9 +1,10 @@
+-- `ground::parmprec::ground_of` meets its contract.
 use mathlib.Core.Path.{_≡_, refl}
 use native.Mathlib.Omega.{arith}
 use Prim.Native.Nat.{_-_, _≤_}
 use native.Mathlib.Numerals.{add-one}
 use borrow.Author.Needs.{needs}
-use Rattle.model.specs.Filled.{filledTo}
+use Rattle.floats.specs.Filled.{filledTo}
 use Rattle.ground.specs.Ground.{groundTo, groundOf}
 use Rattle.ground.proofs.parmprec.ground_of.Statement.{statement}
 use Rattle.ground.proofs.parmprec.ground_of.Tie as tie

@@ -1,3 +1,4 @@
+-- `ground::parmprec::table_of` meets its contract.
 use Rattle.ground.specs.Table.{tableOf}
 use borrow.Author.Needs.{needs}
 use Rattle.ground.proofs.parmprec.table_of.Statement.{statement}

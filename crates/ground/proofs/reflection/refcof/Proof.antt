@@ -1,3 +1,4 @@
+-- `ground::reflection::refcof` meets its contract.
 use Rattle.ground.specs.Reflection.{refCof}
 use borrow.Author.Needs.{needs}
 use Rattle.ground.proofs.reflection.refcof.Statement.{statement}

@@ -1,9 +1,10 @@
+-- `ground::trig::trigfun` meets its contract.
 use mathlib.Core.Path.{_≡_, refl}
 use native.Mathlib.Omega.{arith}
 use Prim.Native.Nat.{_-_, _≤_}
 use native.Mathlib.Numerals.{add-one}
 use borrow.Author.Needs.{needs}
-use Rattle.model.specs.Filled.{filledTo}
+use Rattle.floats.specs.Filled.{filledTo}
 use Rattle.ground.specs.Trig.{sinesTo, cosinesTo, trigTables}
 use Rattle.ground.proofs.trig.trigfun.Statement.{statement}
 use Rattle.ground.proofs.trig.trigfun.Tie as tie

@@ -1,9 +1,10 @@
+-- `logperiodic::active::active_of` meets its contract.
 use mathlib.Core.Path.{_≡_, refl}
 use Prim.Native.Nat.{_≤_, _-_}
 use native.Mathlib.Omega.{arith}
 use native.Mathlib.Numerals.{add-one}
 use Rattle.logperiodic.specs.Active.{activeTo}
-use Rattle.logperiodic.proofs.Listing.{active-few, active-listed}
+use Rattle.logperiodic.proofs.active.Listing.{active-few, active-listed}
 use Rattle.logperiodic.proofs.active.active_of.Statement.{statement}
 use Rattle.logperiodic.proofs.active.active_of.Tie as tie
 

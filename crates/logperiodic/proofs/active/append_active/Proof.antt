@@ -1,3 +1,4 @@
+-- `logperiodic::active::append_active` meets its contract.
 use Rattle.logperiodic.specs.Active.{appended}
 use borrow.Author.Needs.{needs}
 use Rattle.logperiodic.proofs.active.append_active.Statement.{statement}

@@ -1,3 +1,4 @@
+-- `logperiodic::active::band_of` meets its contract.
 use Rattle.logperiodic.specs.Active.{band}
 use borrow.Author.Needs.{needs}
 use Rattle.logperiodic.proofs.active.band_of.Statement.{statement}

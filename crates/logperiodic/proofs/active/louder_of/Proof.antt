@@ -1,3 +1,4 @@
+-- `logperiodic::active::louder_of` meets its contract.
 use Rattle.logperiodic.specs.Active.{louder}
 use Rattle.logperiodic.proofs.active.louder_of.Statement.{statement}
 use Rattle.logperiodic.proofs.active.louder_of.Tie as tie

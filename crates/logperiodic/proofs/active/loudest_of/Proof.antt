@@ -1,10 +1,11 @@
+-- `logperiodic::active::loudest_of` meets its contract.
 use Rattle.logperiodic.specs.Active.{loudestTo, loudest}
 use Prim.Native.Nat.{_≤_, _-_}
 use mathlib.Core.Path.{_≡_, refl}
 use native.Mathlib.Omega.{arith}
 use native.Mathlib.Numerals.{add-one}
 use borrow.Author.Needs.{needs}
-use Rattle.logperiodic.proofs.Listing.{below}
+use Rattle.logperiodic.proofs.active.Listing.{below}
 use Rattle.logperiodic.proofs.active.loudest_of.Statement.{statement}
 use Rattle.logperiodic.proofs.active.loudest_of.Tie as tie
 

@@ -1,3 +1,4 @@
+-- `logperiodic::active::shape_of` meets its contract.
 use Rattle.logperiodic.specs.Active.{shape}
 use mathlib.Core.Path.{refl}
 use Rattle.logperiodic.proofs.active.shape_of.Statement.{statement}

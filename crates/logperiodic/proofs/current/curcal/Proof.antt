@@ -1,3 +1,4 @@
+-- `logperiodic::current::curcal` meets its contract.
 use Rattle.logperiodic.specs.Current.{curcalOf}
 use borrow.Author.Needs.{needs}
 use Rattle.logperiodic.proofs.current.curcal.Statement.{statement}

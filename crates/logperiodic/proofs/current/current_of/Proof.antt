@@ -1,3 +1,4 @@
+-- `logperiodic::current::current_of` meets its contract.
 use Rattle.logperiodic.specs.Current.{currentAt}
 use borrow.Author.Needs.{needs}
 use Rattle.logperiodic.proofs.current.current_of.Statement.{statement}

@@ -1,3 +1,4 @@
+-- `logperiodic::current::half_way` meets its contract.
 use Rattle.logperiodic.specs.Current.{halfWay}
 use mathlib.Core.Path.{refl}
 use Rattle.logperiodic.proofs.current.half_way.Statement.{statement}

@@ -1,3 +1,4 @@
+-- `logperiodic::current::height_at` meets its contract.
 use Rattle.logperiodic.specs.Current.{heightAt}
 use mathlib.Core.Path.{refl}
 use Rattle.logperiodic.proofs.current.height_at.Statement.{statement}

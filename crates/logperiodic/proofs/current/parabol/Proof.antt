@@ -1,3 +1,4 @@
+-- `logperiodic::current::parabol` meets its contract.
 use Rattle.logperiodic.specs.Current.{parabolOf}
 use mathlib.Core.Path.{refl}
 use Rattle.logperiodic.proofs.current.parabol.Statement.{statement}

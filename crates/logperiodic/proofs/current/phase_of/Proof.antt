@@ -1,3 +1,4 @@
+-- `logperiodic::current::phase_of` meets its contract.
 use Rattle.logperiodic.specs.Current.{phaseAt}
 use borrow.Author.Needs.{needs}
 use Rattle.logperiodic.proofs.current.phase_of.Statement.{statement}

@@ -1,3 +1,4 @@
+-- `logperiodic::current::slope_of` meets its contract.
 use Rattle.logperiodic.specs.Current.{slope}
 use borrow.Author.Needs.{needs}
 use Rattle.logperiodic.proofs.current.slope_of.Statement.{statement}

@@ -1,3 +1,4 @@
+-- `logperiodic::current::three_quarters` meets its contract.
 use Rattle.logperiodic.specs.Current.{threeQuarters}
 use mathlib.Core.Path.{refl}
 use Rattle.logperiodic.proofs.current.three_quarters.Statement.{statement}

@@ -1,3 +1,4 @@
+-- `logperiodic::current::vertex_parabola` meets its contract.
 use Rattle.logperiodic.specs.Current.{vertexed}
 use mathlib.Core.Path.{refl}
 use Rattle.logperiodic.proofs.current.vertex_parabola.Statement.{statement}

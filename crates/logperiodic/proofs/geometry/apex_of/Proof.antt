@@ -1,3 +1,4 @@
+-- `logperiodic::geometry::apex_of` meets its contract.
 use Rattle.logperiodic.specs.Geometry.{apex}
 use borrow.Author.Needs.{needs}
 use Rattle.logperiodic.proofs.geometry.apex_of.Statement.{statement}

@@ -1,3 +1,4 @@
+-- `logperiodic::geometry::boom_of` meets its contract.
 use Rattle.logperiodic.specs.Geometry.{boom}
 use borrow.Author.Needs.{needs}
 use Rattle.logperiodic.proofs.geometry.boom_of.Statement.{statement}

@@ -1,3 +1,4 @@
+-- `logperiodic::geometry::horizontal_layout` meets its contract.
 use Rattle.logperiodic.specs.Geometry.{horizontal}
 use borrow.Author.Needs.{needs}
 use Rattle.logperiodic.proofs.geometry.horizontal_layout.Statement.{statement}

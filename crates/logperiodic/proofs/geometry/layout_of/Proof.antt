@@ -1,3 +1,4 @@
+-- `logperiodic::geometry::layout_of` meets its contract.
 use Rattle.logperiodic.specs.Geometry.{layout}
 use borrow.Author.Tests.{eq-eqb, ne-eqb}
 use borrow.Author.Needs.{needs}

@@ -1,3 +1,4 @@
+-- `logperiodic::geometry::lengths_of` meets its contract.
 use Rattle.logperiodic.specs.Geometry.{lengthsTo, lengths}
 use Prim.Native.Nat.{_≤_, _-_}
 use mathlib.Core.Path.{_≡_, refl}

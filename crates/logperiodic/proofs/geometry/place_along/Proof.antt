@@ -1,3 +1,4 @@
+-- `logperiodic::geometry::place_along` meets its contract.
 use mathlib.Core.Path.{_≡_, refl, _∙_}
 use Rattle.logperiodic.specs.Geometry.{alongTo, along}
 use Prim.Native.Nat.{_≤_, _-_}

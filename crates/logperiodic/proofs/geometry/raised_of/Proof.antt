@@ -1,3 +1,4 @@
+-- `logperiodic::geometry::raised_of` meets its contract.
 use Rattle.logperiodic.specs.Geometry.{raisedTo, raised}
 use Prim.Native.Nat.{_≤_, _-_}
 use mathlib.Core.Path.{_≡_, refl}

@@ -1,3 +1,4 @@
+-- `logperiodic::geometry::spacing_of` meets its contract.
 use Rattle.logperiodic.specs.Geometry.{spacing}
 use mathlib.Core.Path.{refl}
 use Rattle.logperiodic.proofs.geometry.spacing_of.Statement.{statement}

@@ -1,3 +1,4 @@
+-- `logperiodic::geometry::taper_of` meets its contract.
 use Rattle.logperiodic.specs.Geometry.{taper}
 use borrow.Author.Needs.{needs}
 use Rattle.logperiodic.proofs.geometry.taper_of.Statement.{statement}

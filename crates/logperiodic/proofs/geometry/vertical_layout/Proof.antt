@@ -1,3 +1,4 @@
+-- `logperiodic::geometry::vertical_layout` meets its contract.
 use Rattle.logperiodic.specs.Geometry.{vertical}
 use borrow.Author.Needs.{needs}
 use Rattle.logperiodic.proofs.geometry.vertical_layout.Statement.{statement}

@@ -1,3 +1,4 @@
+-- `logperiodic::logparm::elements_of` meets its contract.
 use Rattle.logperiodic.specs.LogPeriodic.{elements}
 use mathlib.Core.Path.{refl}
 use Rattle.logperiodic.proofs.logparm.elements_of.Statement.{statement}

@@ -1,3 +1,4 @@
+-- `logperiodic::logparm::feed_of` meets its contract.
 use Rattle.logperiodic.specs.LogPeriodic.{fed}
 use borrow.Author.Needs.{needs}
 use Rattle.logperiodic.proofs.logparm.feed_of.Statement.{statement}
@@ -6,33 +7,20 @@ use Rattle.logperiodic.proofs.logparm.feed_of.Tie as tie
 curcal-requires : tie.Need-curcal-requires
 curcal-requires c κs = search needs
 
-currents-of-requires : tie.Need-currents-of-requires
-currents-of-requires c κs = search needs
-
-phases-of-requires : tie.Need-phases-of-requires
-phases-of-requires c κs = search needs
+excited-of-requires : tie.Need-excited-of-requires
+excited-of-requires c κs = search needs
 
 loudest-of-requires : tie.Need-loudest-of-requires
 loudest-of-requires c κs = search needs
 
-relative-phases-requires : tie.Need-relative-phases-requires
-relative-phases-requires c κs = search needs
-
-strengths-of-requires : tie.Need-strengths-of-requires
-strengths-of-requires c κs = search needs
+normalised-of-requires : tie.Need-normalised-of-requires
+normalised-of-requires c κs = search needs
 
 returns : tie.Need-returns
 unfolding fed
-returns c = simp (← c .strengths-of .ensures, ← c .before .relative-phases .ensures, ← c .before .before .loudest-of .ensures, ← c .before .before .before .phases-of .ensures, ← c .before .before .before .before .currents-of .ensures, ← c .before .before .before .before .before .curcal .ensures)
+returns c = simp (← c .normalised-of .ensures, ← c .before .loudest-of .ensures, ← c .before .before .before .before .excited-of .ensures, ← c .before .before .before .before .before .curcal .ensures)
 
 pub feed-of-spec : {M : Type 1} → statement M
 feed-of-spec =
     tie.close
-    (tie.spec
-    curcal-requires
-    currents-of-requires
-    phases-of-requires
-    loudest-of-requires
-    relative-phases-requires
-    strengths-of-requires
-    returns)
+    (tie.spec curcal-requires excited-of-requires loudest-of-requires normalised-of-requires returns)

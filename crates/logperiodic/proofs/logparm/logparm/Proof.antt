@@ -1,3 +1,4 @@
+-- `logperiodic::logparm::logparm` meets its contract.
 use Rattle.logperiodic.specs.LogPeriodic.{logParm, elements}
 use borrow.Author.Needs.{needs}
 use Rattle.logperiodic.proofs.logparm.logparm.Statement.{statement}

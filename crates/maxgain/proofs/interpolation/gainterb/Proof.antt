@@ -1,3 +1,4 @@
+-- `maxgain::interpolation::gainterb` meets its contract.
 use Prim.Native.Nat.{min}
 use mathlib.Core.Path.{_≡_}
 use native.Mathlib.Omega.{arith}

@@ -1,3 +1,4 @@
+-- `maxgain::interpolation::gainterp` meets its contract.
 use Rattle.maxgain.specs.Interpolation.{gainTerp}
 use borrow.Author.Needs.{needs}
 use Rattle.maxgain.proofs.interpolation.gainterp.Statement.{statement}

@@ -1,3 +1,4 @@
+-- `maxgain::interpolation::gainterp1` meets its contract.
 use Rattle.maxgain.specs.Interpolation.{gainTerp1}
 use borrow.Author.Needs.{needs}
 use Rattle.maxgain.proofs.interpolation.gainterp1.Statement.{statement}

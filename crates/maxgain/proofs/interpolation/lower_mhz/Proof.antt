@@ -3,7 +3,7 @@ use native.Mathlib.Omega.{arith}
 use borrow.Author.Needs.{needs}
 use borrow.Author.Tests.{eq-eqb, ne-eqb}
 use Rattle.maxgain.specs.Interpolation.{lowerMhz}
-use Rattle.maxgain.proofs.Cuts.{cut-band}
+use Rattle.maxgain.proofs.interpolation.Cuts.{cut-band}
 use Rattle.maxgain.proofs.interpolation.lower_mhz.Statement.{statement}
 use Rattle.maxgain.proofs.interpolation.lower_mhz.Tie as tie
 

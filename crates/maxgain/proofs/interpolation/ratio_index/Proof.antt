@@ -1,3 +1,4 @@
+-- `maxgain::interpolation::ratio_index` meets its contract.
 use Rattle.maxgain.specs.Interpolation.{ratioIndex}
 use native.Mathlib.Omega.{arith}
 use Rattle.maxgain.proofs.interpolation.ratio_index.Statement.{statement}

@@ -1,3 +1,4 @@
+-- `maxgain::interpolation::ratio_ok` meets its contract.
 use Rattle.maxgain.specs.Interpolation.{ratioOk}
 use borrow.Author.Tests.{eq-eqb, ne-eqb}
 use borrow.Author.Needs.{needs}

@@ -1,3 +1,4 @@
+-- `maxgain::interpolation::ratios_of` meets its contract.
 use Rattle.maxgain.specs.Interpolation.{frs}
 use borrow.Author.Tests.{eq-eqb, ne-eqb}
 use Rattle.maxgain.proofs.interpolation.ratios_of.Statement.{statement}

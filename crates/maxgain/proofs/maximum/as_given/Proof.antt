@@ -1,3 +1,4 @@
+-- `maxgain::maximum::as_given` meets its contract.
 use Rattle.maxgain.specs.Maximum.{asGiven}
 use mathlib.Core.Path.{refl}
 use borrow.Author.Needs.{needs}

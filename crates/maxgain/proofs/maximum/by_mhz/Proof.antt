@@ -1,3 +1,4 @@
+-- `maxgain::maximum::by_mhz` meets its contract.
 use Rattle.maxgain.specs.Maximum.{byMhz}
 use borrow.Author.Needs.{needs}
 use Rattle.maxgain.proofs.maximum.by_mhz.Statement.{statement}

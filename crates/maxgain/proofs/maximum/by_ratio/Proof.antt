@@ -1,3 +1,4 @@
+-- `maxgain::maximum::by_ratio` meets its contract.
 use Rattle.maxgain.specs.Maximum.{byRatio}
 use borrow.Author.Needs.{needs}
 use Rattle.maxgain.proofs.maximum.by_ratio.Statement.{statement}

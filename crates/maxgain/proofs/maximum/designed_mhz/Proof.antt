@@ -1,3 +1,4 @@
+-- `maxgain::maximum::designed_mhz` meets its contract.
 use Rattle.maxgain.specs.Maximum.{designed}
 use borrow.Author.Needs.{needs}
 use Rattle.maxgain.proofs.maximum.designed_mhz.Statement.{statement}

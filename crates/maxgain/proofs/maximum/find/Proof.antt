@@ -1,6 +1,8 @@
+-- `maxgain::maximum::find` meets its contract.
 use native.Mathlib.Omega.{arith}
 use mathlib.Core.Path.{_≡_}
-use Rattle.maxgain.specs.Maximum.{found, bandOk}
+use Rattle.maxgain.specs.Maximum.{found}
+use Rattle.maxgain.specs.Refusals.{bandOk}
 use borrow.Author.Tests.{eq-eqb, ne-eqb}
 use borrow.Author.Needs.{needs}
 use Rattle.maxgain.proofs.maximum.find.Statement.{statement}

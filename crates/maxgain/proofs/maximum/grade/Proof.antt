@@ -1,3 +1,4 @@
+-- `maxgain::maximum::grade` meets its contract.
 use Rattle.maxgain.specs.Maximum.{graded}
 use borrow.Author.Needs.{needs}
 use Rattle.maxgain.proofs.maximum.grade.Statement.{statement}

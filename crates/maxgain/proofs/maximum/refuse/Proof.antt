@@ -1,3 +1,4 @@
+-- `maxgain::maximum::refuse` meets its contract.
 use Rattle.maxgain.specs.Maximum.{refused}
 use mathlib.Core.Path.{refl}
 use Rattle.maxgain.proofs.maximum.refuse.Statement.{statement}

@@ -1,3 +1,4 @@
+-- `maxgain::maximum::tuned_slots` meets its contract.
 use Rattle.maxgain.specs.Maximum.{tunedSlots}
 use borrow.Author.Tests.{eq-eqb, ne-eqb}
 use borrow.Author.Needs.{needs}

@@ -1,3 +1,4 @@
+-- `maxgain::maximum::tuning_of` meets its contract.
 use Rattle.maxgain.specs.Maximum.{tuned}
 use borrow.Author.Needs.{needs}
 use Rattle.maxgain.proofs.maximum.tuning_of.Statement.{statement}

@@ -1,3 +1,4 @@
+-- `maxgain::maximum::usable_or` meets its contract.
 use Rattle.maxgain.specs.Maximum.{usable}
 use borrow.Author.Needs.{needs}
 use Rattle.maxgain.proofs.maximum.usable_or.Statement.{statement}

@@ -2,8 +2,8 @@
 use Prim.Native.Nat.{suc, _-_, _*_, _^_, _≤_, _<_}
 use native.Mathlib.Nat.{mul-le-mul}
 use native.Mathlib.Omega.{arith}
-use Rattle.numeric.proofs.Newton.{newton-above, above-zero, quotient-lt}
-use Rattle.numeric.proofs.Roots.{root-unique}
+use Rattle.numeric.proofs.root.Newton.{newton-above, above-zero, quotient-lt}
+use Rattle.numeric.proofs.root.Whole.{root-unique}
 use Rattle.numeric.proofs.root.isqrt_from.Statement.{statement}
 use Rattle.numeric.proofs.root.isqrt_from.Tie as tie
 

@@ -3,9 +3,9 @@ use borrow.Author.Needs.{needs}
 use mathlib.Core.Path.{sym, subst}
 use Prim.Native.Nat.{ℕ, _-_, _*_, _%_, _^_}
 use lib.Ieee.{binary32, toBits}
-use Rattle.numeric.specs.Rounding.{Stepped}
+use Rattle.numeric.specs.Inner.{Stepped}
 use Rattle.numeric.proofs.Comparisons.{holds}
-use Rattle.numeric.proofs.Decoded.{decoded}
+use Rattle.numeric.proofs.rounding.Decoded.{decoded}
 use Rattle.numeric.proofs.Signs.{finite-number}
 use Rattle.numeric.proofs.rounding.steps_of.Statement.{statement}
 use Rattle.numeric.proofs.rounding.steps_of.Tie as tie

@@ -4,9 +4,9 @@ use mir.Syntax.{w32}
 use mir.Val.{toZ, ofZ}
 use native.Mathlib.Omega.{arith}
 use lib.Ieee.{toSigned}
-use Rattle.model.proofs.WholeNumbers.{back}
+use Rattle.floats.proofs.WholeNumbers.{back}
 use Rattle.pattern.specs.Azimuth.{back180}
-use Rattle.pattern.proofs.Degrees.{Backed, back-under, back-over, backed}
+use Rattle.pattern.proofs.azimuth.Degrees.{Backed, back-under, back-over, backed}
 use borrow.Author.Needs.{needs}
 use Rattle.pattern.proofs.azimuth.back_from_180.Statement.{statement}
 use Rattle.pattern.proofs.azimuth.back_from_180.Tie as tie

@@ -1,5 +1,5 @@
 -- `pattern::azimuth::behind_screen` meets its contract.
-use Rattle.model.proofs.WholeNumbers.{back}
+use Rattle.floats.proofs.WholeNumbers.{back}
 use Rattle.pattern.specs.Azimuth.{behindScreen, turned}
 use borrow.Author.Needs.{needs}
 use Rattle.pattern.proofs.azimuth.behind_screen.Statement.{statement}

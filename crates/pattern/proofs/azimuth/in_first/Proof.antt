@@ -1,6 +1,6 @@
 -- `pattern::azimuth::in_first` meets its contract.
 use Rattle.pattern.specs.Azimuth.{inFirst}
-use Rattle.model.specs.Ranges.{between}
+use Rattle.floats.specs.Ranges.{between}
 use borrow.Author.Needs.{needs}
 use Rattle.pattern.proofs.azimuth.in_first.Statement.{statement}
 use Rattle.pattern.proofs.azimuth.in_first.Tie as tie

@@ -1,5 +1,5 @@
 -- `pattern::boom::across_below` meets its contract.
-use Rattle.pattern.specs.BoomParts.{acrossBelow}
+use Rattle.pattern.specs.Boom.{acrossBelow}
 use Rattle.pattern.proofs.boom.across_below.Statement.{statement}
 use Rattle.pattern.proofs.boom.across_below.Tie as tie
 

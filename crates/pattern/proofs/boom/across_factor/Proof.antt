@@ -1,5 +1,5 @@
 -- `pattern::boom::across_factor` meets its contract.
-use Rattle.pattern.specs.BoomParts.{acrossFactor}
+use Rattle.pattern.specs.Boom.{acrossFactor}
 use borrow.Author.Needs.{needs}
 use Rattle.pattern.proofs.boom.across_factor.Statement.{statement}
 use Rattle.pattern.proofs.boom.across_factor.Tie as tie

@@ -1,5 +1,5 @@
 -- `pattern::boom::add_across` meets its contract.
-use Rattle.pattern.specs.BoomParts.{addAcross}
+use Rattle.pattern.specs.Boom.{addAcross}
 use borrow.Author.Needs.{needs}
 use Rattle.pattern.proofs.boom.add_across.Statement.{statement}
 use Rattle.pattern.proofs.boom.add_across.Tie as tie

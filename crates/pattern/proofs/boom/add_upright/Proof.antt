@@ -1,5 +1,5 @@
 -- `pattern::boom::add_upright` meets its contract.
-use Rattle.pattern.specs.BoomParts.{addUpright}
+use Rattle.pattern.specs.Boom.{addUpright}
 use borrow.Author.Needs.{needs}
 use Rattle.pattern.proofs.boom.add_upright.Statement.{statement}
 use Rattle.pattern.proofs.boom.add_upright.Tie as tie

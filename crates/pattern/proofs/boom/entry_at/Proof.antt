@@ -1,6 +1,6 @@
 -- `pattern::boom::entry_at` meets its contract.
+use Rattle.model.proofs.Cells.{cell-0, cell-1, cell-2, cell-3}
 use Rattle.pattern.specs.Boom.{entryAt}
-use Rattle.pattern.proofs.Cells.{cell-0, cell-1, cell-2, cell-3}
 use borrow.Author.Needs.{needs}
 use Rattle.pattern.proofs.boom.entry_at.Statement.{statement}
 use Rattle.pattern.proofs.boom.entry_at.Tie as tie
@@ -26,23 +26,29 @@ mul-t9 c = search needs
 shared-slice-read-t11 : tie.Need-shared-slice-read-t11
 shared-slice-read-t11 c = search needs
 
-add-t12 : tie.Need-add-t12
-add-t12 c = search needs
+mul-t12 : tie.Need-mul-t12
+mul-t12 c = search needs
 
-mul-t13 : tie.Need-mul-t13
-mul-t13 c = search needs
+add-t13 : tie.Need-add-t13
+add-t13 c = search needs
 
-shared-slice-read-t15 : tie.Need-shared-slice-read-t15
-shared-slice-read-t15 c = search needs
+mul-t14 : tie.Need-mul-t14
+mul-t14 c = search needs
 
-add-t16 : tie.Need-add-t16
-add-t16 c = search needs
+shared-slice-read-t16 : tie.Need-shared-slice-read-t16
+shared-slice-read-t16 c = search needs
 
 mul-t17 : tie.Need-mul-t17
 mul-t17 c = search needs
 
-shared-slice-read-t19 : tie.Need-shared-slice-read-t19
-shared-slice-read-t19 c = search needs
+add-t18 : tie.Need-add-t18
+add-t18 c = search needs
+
+mul-t19 : tie.Need-mul-t19
+mul-t19 c = search needs
+
+shared-slice-read-t21 : tie.Need-shared-slice-read-t21
+shared-slice-read-t21 c = search needs
 
 returns : tie.Need-returns
 unfolding entryAt
@@ -59,10 +65,12 @@ entry-at-spec =
     add-t8
     mul-t9
     shared-slice-read-t11
-    add-t12
-    mul-t13
-    shared-slice-read-t15
-    add-t16
+    mul-t12
+    add-t13
+    mul-t14
+    shared-slice-read-t16
     mul-t17
-    shared-slice-read-t19
+    add-t18
+    mul-t19
+    shared-slice-read-t21
     returns)

@@ -1,5 +1,5 @@
 -- `pattern::boom::gamma_of` meets its contract.
-use Rattle.pattern.specs.BoomParts.{gammaOf}
+use Rattle.pattern.specs.Boom.{gammaOf}
 use Rattle.pattern.proofs.boom.gamma_of.Statement.{statement}
 use Rattle.pattern.proofs.boom.gamma_of.Tie as tie
 

@@ -1,5 +1,5 @@
 -- `pattern::boom::upright_factor` meets its contract.
-use Rattle.pattern.specs.BoomParts.{uprightFactor}
+use Rattle.pattern.specs.Boom.{uprightFactor}
 use borrow.Author.Needs.{needs}
 use Rattle.pattern.proofs.boom.upright_factor.Statement.{statement}
 use Rattle.pattern.proofs.boom.upright_factor.Tie as tie

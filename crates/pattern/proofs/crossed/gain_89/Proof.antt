@@ -1,7 +1,7 @@
 -- `pattern::crossed::gain_89` meets its contract.
 use mathlib.Core.Path.{_∙_}
 use Rattle.pattern.specs.CrossedParts.{crossedGain}
-use Rattle.pattern.proofs.CrossedByParts.{crossed-whole}
+use Rattle.pattern.proofs.crossed.Whole.{crossed-whole}
 use borrow.Author.Needs.{needs}
 use Rattle.pattern.proofs.crossed.gain_89.Statement.{statement}
 use Rattle.pattern.proofs.crossed.gain_89.Tie as tie

@@ -1,5 +1,5 @@
 -- `pattern::dipoles::dipole_factor` meets its contract.
-use Rattle.pattern.specs.DipoleParts.{dipoleFactor}
+use Rattle.pattern.specs.Dipoles.{dipoleFactor}
 use borrow.Author.Needs.{needs}
 use Rattle.pattern.proofs.dipoles.dipole_factor.Statement.{statement}
 use Rattle.pattern.proofs.dipoles.dipole_factor.Tie as tie

@@ -1,5 +1,5 @@
 -- `pattern::dipoles::ground_factor` meets its contract.
-use Rattle.pattern.specs.DipoleParts.{groundFactor}
+use Rattle.pattern.specs.Dipoles.{groundFactor}
 use borrow.Author.Needs.{needs}
 use Rattle.pattern.proofs.dipoles.ground_factor.Statement.{statement}
 use Rattle.pattern.proofs.dipoles.ground_factor.Tie as tie

@@ -1,5 +1,5 @@
 -- `pattern::dipoles::il_count_of` meets its contract.
-use Rattle.model.proofs.WholeNumbers.{back}
+use Rattle.floats.proofs.WholeNumbers.{back}
 use borrow.Author.Needs.{needs}
 use Rattle.pattern.proofs.dipoles.il_count_of.Statement.{statement}
 use Rattle.pattern.proofs.dipoles.il_count_of.Tie as tie

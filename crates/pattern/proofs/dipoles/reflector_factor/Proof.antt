@@ -1,5 +1,5 @@
 -- `pattern::dipoles::reflector_factor` meets its contract.
-use Rattle.pattern.specs.DipoleParts.{reflectorFactor}
+use Rattle.pattern.specs.Dipoles.{reflectorFactor}
 use borrow.Author.Needs.{needs}
 use Rattle.pattern.proofs.dipoles.reflector_factor.Statement.{statement}
 use Rattle.pattern.proofs.dipoles.reflector_factor.Tie as tie

@@ -5,7 +5,7 @@ use native.Mathlib.Numerals.{add-one}
 use native.Mathlib.Omega.{arith}
 use borrow.Author.Needs.{needs}
 use Rattle.pattern.specs.Rows.{sineSum, cosineSum}
-use Rattle.pattern.specs.DipoleParts.{rowFactor}
+use Rattle.pattern.specs.Dipoles.{rowFactor}
 use Rattle.pattern.proofs.dipoles.row_factor.Statement.{statement}
 use Rattle.pattern.proofs.dipoles.row_factor.Tie as tie
 

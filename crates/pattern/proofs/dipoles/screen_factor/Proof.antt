@@ -1,5 +1,5 @@
 -- `pattern::dipoles::screen_factor` meets its contract.
-use Rattle.pattern.specs.DipoleParts.{screenFactor}
+use Rattle.pattern.specs.Dipoles.{screenFactor}
 use borrow.Author.Needs.{needs}
 use Rattle.pattern.proofs.dipoles.screen_factor.Statement.{statement}
 use Rattle.pattern.proofs.dipoles.screen_factor.Tie as tie

@@ -1,5 +1,5 @@
 -- `pattern::dipoles::screen_front` meets its contract.
-use Rattle.pattern.specs.DipoleParts.{screenFront}
+use Rattle.pattern.specs.Dipoles.{screenFront}
 use borrow.Author.Needs.{needs}
 use Rattle.pattern.proofs.dipoles.screen_front.Statement.{statement}
 use Rattle.pattern.proofs.dipoles.screen_front.Tie as tie

@@ -1,5 +1,5 @@
 -- `pattern::dipoles::screen_reflection` meets its contract.
-use Rattle.pattern.specs.DipoleParts.{screenReflection}
+use Rattle.pattern.specs.Dipoles.{screenReflection}
 use borrow.Author.Needs.{needs}
 use Rattle.pattern.proofs.dipoles.screen_reflection.Statement.{statement}
 use Rattle.pattern.proofs.dipoles.screen_reflection.Tie as tie

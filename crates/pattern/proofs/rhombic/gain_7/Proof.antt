@@ -1,7 +1,7 @@
 -- `pattern::rhombic::gain_7` meets its contract.
 use mathlib.Core.Path.{_∙_}
 use Rattle.pattern.specs.RhombicParts.{rhombicGain}
-use Rattle.pattern.proofs.RhombicByParts.{rhombic-whole}
+use Rattle.pattern.proofs.rhombic.Whole.{rhombic-whole}
 use borrow.Author.Needs.{needs}
 use Rattle.pattern.proofs.rhombic.gain_7.Statement.{statement}
 use Rattle.pattern.proofs.rhombic.gain_7.Tie as tie

@@ -5,10 +5,11 @@ use Prim.Native.Nat.{ℕ, _+_, _/_}
 use native.Mathlib.Omega.{arith}
 use borrow.Author.Needs.{needs}
 use lib.ListN.{length, length-append}
-use Rattle.service.specs.Lists.{left, laid}
+use Rattle.service.specs.Lists.{left}
+use Rattle.words.specs.Laid.{laid}
 use Rattle.service.specs.Search.{searchWords}
 use Rattle.service.specs.Gains.{gainsTo, gainsLeft}
-use Rattle.service.proofs.Copies.{laid-more, laid-whole}
+use Rattle.words.proofs.Laid.{laid-more, laid-whole}
 use Rattle.service.proofs.PairsOfWords.{gains-length}
 use Rattle.service.proofs.SetUps.{ready, turned-away, four-words}
 use Rattle.service.proofs.gains.gains_over.Statement.{statement}

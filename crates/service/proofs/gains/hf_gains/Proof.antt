@@ -6,8 +6,8 @@ use borrow.Author.Needs.{needs}
 use borrow.Author.Tests.{not-false, eqb-true}
 use lib.ListN.{length}
 use lib.Seq.{take-all}
-use Rattle.model.proofs.Tests.{both}
-use Rattle.model.proofs.Filled.{blank-length}
+use Rattle.floats.proofs.Tests.{both}
+use Rattle.model.proofs.BlankTable.{blank-length}
 use Rattle.service.specs.Gains.{gainsFit, gainsCall}
 use Rattle.service.proofs.gains.hf_gains.Statement.{statement}
 use Rattle.service.proofs.gains.hf_gains.Tie as tie

@@ -4,7 +4,7 @@ use native.Mathlib.Omega.{arith}
 use native.Mathlib.Numerals.{add-one}
 use borrow.Author.Needs.{needs}
 use lib.ListN.{length-set}
-use lib.Seq.{sets-eq}
+use Rattle.words.proofs.Laid.{laid-sets}
 use Rattle.service.proofs.gains.put_gain.Statement.{statement}
 use Rattle.service.proofs.gains.put_gain.Tie as tie
 
@@ -30,7 +30,7 @@ same-length : tie.Need-same-length
 same-length c = search needs
 
 returns : tie.Need-returns
-returns c = let a = c .before .before .args in rw (← c .pair-of .ensures, add-one) (sets-eq (c .pair-of .result .kind ∷ c .pair-of .result .word ∷ []) (a .out .now) (a .at) (omega arith))
+returns c = let a = c .before .before .args in rw (← c .pair-of .ensures, add-one) (laid-sets (a .out .now) (a .at) (c .pair-of .result .kind ∷ c .pair-of .result .word ∷ []) (omega arith))
 
 pub put-gain-spec : {M : Type 1} → statement M
 put-gain-spec =

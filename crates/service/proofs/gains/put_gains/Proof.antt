@@ -5,13 +5,12 @@ use native.Mathlib.Omega.{arith}
 use native.Mathlib.Numerals.{add-one}
 use borrow.Author.Needs.{needs}
 use lib.ListN.{length}
-use lib.Seq.{paste-zero}
 use Rattle.antenna.specs.Gain.{gainOf}
-use Rattle.model.specs.Ops.{at}
-use Rattle.service.specs.Lists.{laid}
+use Rattle.floats.specs.Ops.{at}
+use Rattle.words.specs.Laid.{laid}
 use Rattle.service.specs.Gains.{gainWords, gainsTo}
 use Rattle.service.proofs.PairsOfWords.{gains-length}
-use Rattle.service.proofs.Copies.{laid-more, laid-length}
+use Rattle.words.proofs.Laid.{laid-none, laid-more, laid-length}
 use Rattle.service.proofs.gains.put_gains.Statement.{statement}
 use Rattle.service.proofs.gains.put_gains.Tie as tie
 
@@ -25,7 +24,7 @@ loop-holds : tie.Need-loop-holds Inv-loop μ-loop
 unfolding gainsTo
 loop-holds c =
     let a = c .before .before .before .args in
-    (omega arith, refl, paste-zero (a .out .now) 4 (a .out .now))
+    (omega arith, refl, laid-none (a .out .now) 4)
 
 mul-i : tie.Need-mul-i Inv-loop μ-loop
 mul-i c = omega arith

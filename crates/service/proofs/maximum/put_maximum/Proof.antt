@@ -7,7 +7,7 @@ use lib.ListN.{length, set, length-set, length-map}
 use lib.Ieee.{binary32, toBits}
 use Rattle.service.specs.Lists.{bits}
 use Rattle.service.specs.Maximum.{maximumWords}
-use Rattle.service.proofs.Copies.{laid-first}
+use Rattle.words.proofs.Laid.{laid-first}
 use Rattle.service.proofs.maximum.put_maximum.Statement.{statement}
 use Rattle.service.proofs.maximum.put_maximum.Tie as tie
 

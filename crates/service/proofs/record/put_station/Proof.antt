@@ -6,9 +6,10 @@ use native.Mathlib.Omega.{arith}
 use borrow.Author.Needs.{needs}
 use lib.ListN.{length, set, length-set, length-map, length-append}
 use lib.Ieee.{Float, binary32, toBits}
-use Rattle.service.specs.Lists.{bits, laid}
+use Rattle.service.specs.Lists.{bits}
+use Rattle.words.specs.Laid.{laid}
 use Rattle.service.specs.Record.{stationWords}
-use Rattle.service.proofs.Copies.{laid-more, laid-first}
+use Rattle.words.proofs.Laid.{laid-more, laid-first}
 use Rattle.service.proofs.record.put_station.Statement.{statement}
 use Rattle.service.proofs.record.put_station.Tie as tie
 

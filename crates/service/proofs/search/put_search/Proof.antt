@@ -4,7 +4,7 @@ use Prim.Native.Nat.{_%_, _^_}
 use native.Mathlib.Omega.{arith}
 use borrow.Author.Needs.{needs}
 use lib.ListN.{length-set}
-use lib.Seq.{sets-eq}
+use Rattle.words.proofs.Laid.{laid-sets}
 use Rattle.service.specs.Search.{searchWords}
 use Rattle.service.proofs.search.put_search.Statement.{statement}
 use Rattle.service.proofs.search.put_search.Tie as tie
@@ -43,7 +43,7 @@ returns c =
     let z6 = c .before .before .bits-of .result in
     let umax = c .before .bits-of2 .result in
     let vmax = c .bits-of3 .result in
-    rw (← c .before .before .bits-of .ensures, ← c .before .bits-of2 .ensures, ← c .bits-of3 .ensures) (sets-eq (a .readings % 2 ^ 32 ∷ z6 ∷ umax ∷ vmax ∷ []) (a .out .now) 0 (omega arith))
+    rw (← c .before .before .bits-of .ensures, ← c .before .bits-of2 .ensures, ← c .bits-of3 .ensures) (laid-sets (a .out .now) 0 (a .readings % 2 ^ 32 ∷ z6 ∷ umax ∷ vmax ∷ []) (omega arith))
 
 pub put-search-spec : {M : Type 1} → statement M
 put-search-spec =

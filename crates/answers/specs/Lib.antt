@@ -1,0 +1,3 @@
+-- What a call answers, and the numbers of its refusals.
+pub mod Outcome
+pub mod Refusals

@@ -1,0 +1,2 @@
+-- What the row's proof says of its outcome.
+mod Steps

@@ -1,0 +1,3 @@
+-- The claims, one file for each.
+pub mod MirrorLaw
+pub mod StarredEdges

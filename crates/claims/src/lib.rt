@@ -1,0 +1,12 @@
+// What the customer asked to be true of the calls, as sentences that are proved. There is no code
+// here: each claim is a record in specs/, whose fields are its sentences, and the file of the same
+// name in proofs/ has the theorem. They speak of the definitions that the calls' contracts cite, so
+// they hold of whatever the calls answer.
+//
+// Demand 3, the mirror law: `mirror-law : MirrorLaw`, specs/MirrorLaw.antt. An antenna that set-up
+// accepted, of types 1 to 4 with a slew that truncates to 0 or of types 5 and 6, answers at 360 - v
+// what it answers at v, for each whole azimuth but 90 and 270; a curtain whose rounded slew is -3
+// to 3 answers at every azimuth what it answers at its negative.
+//
+// The starred edges: `starred-edges : StarredEdges`, specs/StarredEdges.antt. The single cases that
+// document 01 stars, in its order, one line each.

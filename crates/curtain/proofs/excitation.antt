@@ -1,0 +1,2 @@
+-- What the proofs of `unsigned_abs` and `bay_phase` share.
+mod Signed

@@ -1,0 +1,2 @@
+-- What the proofs of `stacks_of` and `bays_of` share.
+mod Counts

@@ -1,0 +1,8 @@
+-- The laws of floats that crates above cite: one file for each subject.
+pub mod Tests
+pub mod WholeNumbers
+pub mod Naturals
+pub mod Edges
+pub mod Filled
+pub mod Negation
+pub mod Opposites

@@ -1,0 +1,2 @@
+-- What `trigfun`'s tables hold.
+mod DegreeTables

@@ -1,0 +1,2 @@
+-- What the loops over the active elements share.
+mod Listing

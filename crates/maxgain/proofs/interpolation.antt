@@ -1,0 +1,2 @@
+-- What the proof of `lower_mhz` uses.
+mod Cuts

@@ -1,0 +1,184 @@
+-- The laws of the binary logarithm L in units: for a positive normal x, with u for 2 ^ 30, L / u ≤ log2 x < (L + 4) / u, said as 2 ^ L ≤ x ^ u < 2 ^ (L + 4);
+-- and L never falls as x grows. A power 2 ^ v of an integer v is the fraction up v / down v, and x is num x / den x.
+-- u is a variable, so that no u th power is ever computed.
+use mathlib.Core.Path.{_≡_, refl, sym, ap, _∙_, subst}
+use mathlib.Core.Bool.{Bool, cond}
+use mathlib.Core.Logic.{inl, inr}
+use Prim.Native.Nat.{ℕ, zero, suc, _+_, _-_, _*_, _/_, _^_, _≤_, _<_, suc-le-suc}
+use native.Mathlib.Nat.{le-trans, le-of-eq, lt-of-lt-of-le, lt-of-le-of-lt, mul-assoc, mul-comm, mul-left-comm, mul-right-comm, mul-pos, mul-le-mul-right, mul-lt-mul-of-pos-right, le-of-mul-le-mul-right, lt-of-mul-lt-mul-right, one-le-pow, eq-or-lt-of-le, add-zero, suc-mul, not-suc-le-zero, le-of-suc-le-suc}
+use native.Mathlib.Omega.{arith}
+use lib.IntN.{ℤ, pos, negsuc, negℤ, subℕ, _+ℤ_, _*ℤ_}
+use lib.Dec.{T, le→leb, leb→le}
+use lib.Signed.{_≤ℤ_, leZ-yes, mag, shrZ}
+use lib.Pow.{pow-add, pow-pos, pow-mono, shr-mono}
+use lib.Ieee.{Float, nan, binary32, up, down, size, le, fits}
+use lib.Ieee.Bits.{is-true}
+use lib.Ieee.Digits.{size-lt, size-le}
+use lib.Ieee.Fits.{down-pos}
+use lib.Ieee.Positive.{num, den, den-pos, positive}
+use lib.Ieee.Nearest.{div-mono}
+use Rattle.numeric.specs.Logarithm as Logarithm
+use Rattle.numeric.specs.Logarithm.{digits, normal, exponent, significand, binaryLogarithm, room, Bounded, logarithmTimes}
+use Rattle.numeric.specs.Rounding.{F, steps}
+use Rattle.numeric.proofs.logarithm.Digits.{digits-lt, digits-mono, thirty, mul-pow, pow-mul}
+use Rattle.numeric.proofs.Integers.{mag-sub, mag-mul, mag-add, mag-floor, sub-power, sub-mul, sub-add, sub-mono}
+use Rattle.numeric.proofs.logarithm.Parts.{parts, normal-positive, significand-is, exponent-is}
+use Rattle.numeric.proofs.rounding.Laws.{F-mono}
+use Rattle.numeric.proofs.rounding.Truncation.{truncated-mono}
+
+-- ---- L as one difference
+
+-- the digits of the exponent and of the logarithm: L + 150 * u
+abbrev raised : ℕ → Float → ℕ
+raised u x = size (steps x) * u + digits 30 (significand x)
+
+L-is : (u : ℕ) → u ≡ 2 ^ 30 → (x : Float) → binaryLogarithm x ≡ subℕ (raised u x) (150 * u)
+unfolding binaryLogarithm
+L-is u e x =
+    let z = size (steps x) in
+    let d = digits 30 (significand x) in
+    ap (λ (i : ℕ). subℕ z 150 *ℤ pos i +ℤ pos d) (sym e)
+    ∙ ap (λ (i : ℤ). i +ℤ pos d) (sub-mul z 150 u (subst (λ (i : ℕ). 0 < i) (sym e) (pow-pos 30)))
+    ∙ sub-add (z * u) (150 * u) d
+
+-- ---- L never falls
+
+raised-mono : (u : ℕ) → u ≡ 2 ^ 30 → (x y : Float) → steps x ≤ steps y → raised u x ≤ raised u y
+raised-mono u e x y h =
+    let a = size (steps x) in
+    let b = size (steps y) in
+    let c = digits 30 (significand x) in
+    elim (eq-or-lt-of-le (size-le (steps x) b (lt-of-le-of-lt h (size-lt (steps y))))) [
+      | inl p ↦ subst (λ (i : ℕ). i * u + digits 30 (steps x * 2 ^ 30 / 2 ^ (i - 1)) ≤ raised u y) (sym p) (same b)
+      | inr l ↦
+          let s : suc a * u ≤ b * u = mul-le-mul-right u l in
+          omega (arith, digits-lt 30 (significand x), suc-mul a u)
+    ]
+  where
+    same : (b : ℕ) → b * u + digits 30 (steps x * 2 ^ 30 / 2 ^ (b - 1)) ≤ b * u + digits 30 (steps y * 2 ^ 30 / 2 ^ (b - 1))
+    same b =
+        let q : steps x * 2 ^ 30 / 2 ^ (b - 1) ≤ steps y * 2 ^ 30 / 2 ^ (b - 1) = div-mono (steps x * 2 ^ 30) (2 ^ (b - 1)) (steps y * 2 ^ 30) (2 ^ (b - 1)) (pow-pos (b - 1)) (pow-pos (b - 1)) (mul-le-mul-right (2 ^ (b - 1)) (mul-le-mul-right (2 ^ 30) h)) in
+        omega (arith, digits-mono 30 (steps x * 2 ^ 30 / 2 ^ (b - 1)) (steps y * 2 ^ 30 / 2 ^ (b - 1)) q)
+
+-- of positive finite numbers
+logarithm-mono : (x y : Float) → T (positive x) → T (positive y) → T (le x y) → binaryLogarithm x ≤ℤ binaryLogarithm y
+logarithm-mono x y p q h = rw (L-is (2 ^ 30) refl x, L-is (2 ^ 30) refl y) (sub-mono (raised (2 ^ 30) x) (raised (2 ^ 30) y) (150 * 2 ^ 30) (raised-mono (2 ^ 30) refl x y (truncated-mono 149 x y p q h)))
+
+-- of positive normal numbers
+pub logarithm-never-falls : (x y : Float) → T (normal x) → T (normal y) → T (le x y) → binaryLogarithm x ≤ℤ binaryLogarithm y
+logarithm-never-falls x y p q h = logarithm-mono x y (normal-positive x p) (normal-positive y q) h
+
+-- ---- the bounds
+
+-- the steps n = M * 2 ^ k of x, in terms of its significand s = M * 2 ^ 7 and of thirty digits d, with w for the power u
+scaled : (n M k w : ℕ) → n ≡ M * 2 ^ k → n ^ w * 2 ^ (7 * w) ≡ (M * 2 ^ 7) ^ w * 2 ^ (k * w)
+scaled n M k w e =
+    let f : n * 2 ^ 7 ≡ M * 2 ^ 7 * 2 ^ k = ap (λ (i : ℕ). i * 2 ^ 7) e ∙ mul-right-comm M (2 ^ k) (2 ^ 7) in
+    ap (λ (i : ℕ). n ^ w * i) (pow-mul 2 7 w) ∙ sym (mul-pow n (2 ^ 7) w) ∙ ap (λ (i : ℕ). i ^ w) f ∙ mul-pow (M * 2 ^ 7) (2 ^ k) w ∙ ap (λ (i : ℕ). (M * 2 ^ 7) ^ w * i) (sym (pow-mul 2 k w))
+
+-- n ^ u * 2 ^ u, which is (n / 2 ^ 149) ^ u * 2 ^ (150 * u), lies between 2 ^ raised and 2 ^ (raised + 3)
+module _ (u : ℕ) (e : u ≡ 2 ^ 30) (n M k d : ℕ) (w : n ≡ M * 2 ^ k) where
+  unit-power : u ^ u ≡ 2 ^ (30 * u)
+  unit-power = ap (λ (i : ℕ). i ^ u) e ∙ sym (pow-mul 2 30 u)
+
+  meet : (c : ℕ) → 2 ^ (d + c) * u ^ u * 2 ^ (k * u) ≡ 2 ^ ((k + 24) * u + d + c) * 2 ^ (6 * u)
+  meet c =
+      let f : d + c + 30 * u + k * u ≡ (k + 24) * u + d + c + 6 * u = omega arith in
+      ap (λ (i : ℕ). 2 ^ (d + c) * i * 2 ^ (k * u)) unit-power
+      ∙ ap (λ (i : ℕ). i * 2 ^ (k * u)) (sym (pow-add 2 (d + c) (30 * u)))
+      ∙ sym (pow-add 2 (d + c + 30 * u) (k * u))
+      ∙ ap (λ (i : ℕ). 2 ^ i) f
+      ∙ pow-add 2 ((k + 24) * u + d + c) (6 * u)
+
+  seven : n ^ u * 2 ^ u * 2 ^ (6 * u) ≡ (M * 2 ^ 7) ^ u * 2 ^ (k * u)
+  seven =
+      let f : u + 6 * u ≡ 7 * u = omega arith in
+      mul-assoc (n ^ u) (2 ^ u) (2 ^ (6 * u)) ∙ ap (λ (i : ℕ). n ^ u * i) (sym (pow-add 2 u (6 * u)) ∙ ap (λ (i : ℕ). 2 ^ i) f) ∙ scaled n M k u w
+
+  at-least : 2 ^ (d + 0) * u ^ u ≤ (M * 2 ^ 7) ^ u → 2 ^ ((k + 24) * u + d + 0) ≤ n ^ u * 2 ^ u
+  at-least h = le-of-mul-le-mul-right (le-trans (le-of-eq (sym (meet 0))) (le-trans (mul-le-mul-right (2 ^ (k * u)) h) (le-of-eq (sym seven)))) (pow-pos (6 * u))
+
+  less-than : (M * 2 ^ 7) ^ u < 2 ^ (d + 3) * u ^ u → n ^ u * 2 ^ u < 2 ^ ((k + 24) * u + d + 3)
+  less-than h = lt-of-mul-lt-mul-right (2 ^ (6 * u)) (lt-of-le-of-lt (le-of-eq seven) (lt-of-lt-of-le (mul-lt-mul-of-pos-right h (pow-pos (k * u))) (le-of-eq (meet 3))))
+
+-- N / B is X / D, and p / q is A / B
+from-below : (X D N B A p q : ℕ) → 0 < B → N * D ≡ X * B → p * B ≡ A * q → A ≤ N → p * D ≤ X * q
+from-below X D N B A p q b v w h =
+    le-of-mul-le-mul-right
+    (le-trans (le-of-eq (mul-right-comm p D B ∙ ap (λ (i : ℕ). i * D) w ∙ mul-assoc A q D))
+    (le-trans (mul-le-mul-right (q * D) h)
+    (le-of-eq (mul-left-comm N q D ∙ ap (λ (i : ℕ). q * i) v ∙ sym (mul-assoc q X B) ∙ ap (λ (i : ℕ). i * B) (mul-comm q X)))))
+    b
+
+from-above : (X D N B A p q : ℕ) → 0 < q * D → N * D ≡ X * B → p * B ≡ A * q → N < A → X * q < p * D
+from-above X D N B A p q b v w h =
+    lt-of-mul-lt-mul-right B
+    (lt-of-le-of-lt (le-of-eq (ap (λ (i : ℕ). i * B) (mul-comm X q) ∙ mul-assoc q X B ∙ ap (λ (i : ℕ). q * i) (sym v) ∙ mul-left-comm q N D))
+    (lt-of-lt-of-le (mul-lt-mul-of-pos-right h b)
+    (le-of-eq (sym (mul-assoc A q D) ∙ ap (λ (i : ℕ). i * D) (sym w) ∙ mul-right-comm p B D))))
+
+value-power : (u n a c : ℕ) → n * c ≡ a * 2 ^ 149 → n ^ u * 2 ^ u * c ^ u ≡ a ^ u * 2 ^ (150 * u)
+value-power u n a c e =
+    let f : 149 * u + u ≡ 150 * u = omega arith in
+    mul-right-comm (n ^ u) (2 ^ u) (c ^ u)
+    ∙ ap (λ (i : ℕ). i * 2 ^ u) (sym (mul-pow n c u) ∙ ap (λ (i : ℕ). i ^ u) e ∙ mul-pow a (2 ^ 149) u ∙ ap (λ (i : ℕ). a ^ u * i) (sym (pow-mul 2 149 u)))
+    ∙ mul-assoc (a ^ u) (2 ^ (149 * u)) (2 ^ u)
+    ∙ ap (λ (i : ℕ). a ^ u * i) (sym (pow-add 2 (149 * u) u) ∙ ap (λ (i : ℕ). 2 ^ i) f)
+
+pub logarithm-bounds : (x : Float) → T (fits binary32 x) → T (normal x) → (u : ℕ) → u ≡ 2 ^ 30 → Bounded x u
+logarithm-bounds x f t u e =
+    let p = parts x f t in
+    let n = steps x in
+    let d = digits 30 (significand x) in
+    let N = n ^ u * 2 ^ u in
+    let B = 2 ^ (150 * u) in
+    let A = (p .k + 24) * u + d in
+    let s = significand-is x p in
+    let b = thirty u e (p .M * 2 ^ 7) (rw e (omega (arith, p .from))) (rw e (omega (arith, p .below))) in
+    let L : binaryLogarithm x ≡ subℕ A (150 * u) = L-is u e x ∙ ap (λ (z : ℕ). subℕ (z * u + d) (150 * u)) (p .count) in
+    let L4 : binaryLogarithm x +ℤ pos room ≡ subℕ (A + room) (150 * u) = ap (λ (z : ℤ). z +ℤ pos room) L ∙ sub-add A (150 * u) room in
+    let v = value-power u n (num x) (den x) (p .value) in
+    let lo : 2 ^ (A + 0) ≤ N = at-least u e n (p .M) (p .k) d (p .whole) (subst (λ (i : ℕ). 2 ^ (digits 30 i + 0) * u ^ u ≤ (p .M * 2 ^ 7) ^ u) (sym s) (rw add-zero (b .0))) in
+    let hi : N < 2 ^ (A + 3) = less-than u e n (p .M) (p .k) d (p .whole) (subst (λ (i : ℕ). (p .M * 2 ^ 7) ^ u < 2 ^ (digits 30 i + 3) * u ^ u) (sym s) (b .1)) in
+    let enough : A + 3 ≤ A + room = omega arith in (
+      rw L (from-below (num x ^ u) (den x ^ u) N B (2 ^ A) (up (subℕ A (150 * u))) (down (subℕ A (150 * u))) (pow-pos (150 * u)) v (sub-power A (150 * u)) (rw add-zero at lo)),
+      rw L4 (from-above (num x ^ u) (den x ^ u) N B (2 ^ (A + room)) (up (subℕ (A + room) (150 * u))) (down (subℕ (A + room) (150 * u))) (mul-pos (down-pos (subℕ (A + room) (150 * u))) (one-le-pow u (den x) (den-pos x))) v (sub-power (A + room) (150 * u)) (lt-of-lt-of-le hi (pow-mono enough))),
+    )
+
+-- ---- L is a number of 39 binary digits and a sign
+
+pub logarithm-lt : (x : Float) → T (fits binary32 x) → T (normal x) → mag (binaryLogarithm x) < 2 ^ 39
+unfolding binaryLogarithm
+logarithm-lt x f t =
+    let p = parts x f t in
+    let d = digits 30 (significand x) in
+    let e : mag (exponent x) < 256 = subst (λ (z : ℤ). mag z < 256) (sym (exponent-is x p)) (mag-sub (p .k + 1) 127 256 (omega (arith, p .few)) (omega arith)) in
+    omega (arith, mag-add (exponent x *ℤ pos (2 ^ 30)) d (2 ^ 38) (mag-mul (exponent x) (2 ^ 30) 256 (2 ^ 30) (pow-pos 30) (omega arith) e), digits-lt 30 (significand x))
+
+pub scaled-lt : (k : ℕ) (l : ℤ) → k ≤ 2 ^ 24 → mag l < 2 ^ 39 → mag (Logarithm.scaled k l) < 2 ^ 39
+scaled-lt k l h b = mag-floor (l *ℤ pos k) (2 ^ 24) (2 ^ 39) (pow-pos 24) (mag-mul l k (2 ^ 39) (2 ^ 24) (pow-pos 24) h b)
+
+-- ---- log10 and ln never fall: the multiple of L, rounded down, does not, nor does F
+
+floor-mono : (n m : ℕ) → m ≤ n → shrZ (negℤ (pos n)) (2 ^ 24) ≤ℤ shrZ (negℤ (pos m)) (2 ^ 24)
+floor-mono zero zero h = leZ-yes tt
+floor-mono (suc n) zero h = leZ-yes tt
+floor-mono zero (suc m) h = absurd (not-suc-le-zero h)
+floor-mono (suc n) (suc m) h = leZ-yes (le→leb (m / 2 ^ 24) (n / 2 ^ 24) (shr-mono 24 (le-of-suc-le-suc h)))
+
+floor-sign : (n b : ℕ) → shrZ (negℤ (pos n)) (2 ^ 24) ≤ℤ pos b
+floor-sign zero b = leZ-yes (le→leb 0 b (omega arith))
+floor-sign (suc n) b = leZ-yes tt
+
+scaled-mono : (k : ℕ) (l m : ℤ) → l ≤ℤ m → Logarithm.scaled k l ≤ℤ Logarithm.scaled k m
+scaled-mono k (pos a) (pos b) h = leZ-yes (le→leb (a * k / 2 ^ 24) (b * k / 2 ^ 24) (shr-mono 24 (mul-le-mul-right k (leb→le a b (h .le)))))
+scaled-mono k (pos a) (negsuc b) h = absurd (h .le)
+scaled-mono k (negsuc a) (pos b) h = floor-sign (suc a * k) (b * k / 2 ^ 24)
+scaled-mono k (negsuc a) (negsuc b) h = floor-mono (suc a * k) (suc b * k) (mul-le-mul-right k (suc-le-suc (leb→le b a (h .le))))
+
+pub logarithm-times-mono : (k : ℕ) (x y : Float) → T (normal x) → T (normal y) → T (le x y) → T (le (logarithmTimes k x) (logarithmTimes k y))
+unfolding logarithmTimes
+logarithm-times-mono k x y p q h =
+    subst (λ (b : Bool). T (le (cond b (F (Logarithm.scaled k (binaryLogarithm x))) nan) (cond (normal y) (F (Logarithm.scaled k (binaryLogarithm y))) nan))) (sym (is-true (normal x) p))
+    (subst (λ (b : Bool). T (le (F (Logarithm.scaled k (binaryLogarithm x))) (cond b (F (Logarithm.scaled k (binaryLogarithm y))) nan))) (sym (is-true (normal y) q))
+    (F-mono (Logarithm.scaled k (binaryLogarithm x)) (Logarithm.scaled k (binaryLogarithm y)) (scaled-mono k (binaryLogarithm x) (binaryLogarithm y) (logarithm-never-falls x y p q h))))

@@ -1,0 +1,6 @@
+-- The sine and the cosine: the terms and their sums (`Terms`), the error of 8 units (`SeriesError`, `SeriesRange`, `Error`), and the laws for every float (`Laws`).
+mod Terms
+mod SeriesError
+mod SeriesRange
+pub mod Error
+pub mod Laws

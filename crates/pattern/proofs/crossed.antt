@@ -1,0 +1,2 @@
+-- The code's steps are the rule.
+mod Whole

@@ -1,0 +1,84 @@
+//! Plausible and false: the wrong programs that document 01 names ("Plausible and false", "Before a test is written"), each an edit
+//! of the source's text or of the oracle's over it. Stored cases named after an impostor show it; `compare impostors` holds that
+//! each of them does. build.rs mounts this file too and puts a switch at each place.
+
+pub struct Impostor {
+    pub name: &'static str,
+    /// The call in whose list its cases are.
+    pub call: &'static str,
+    pub file: &'static str,
+    /// What is wrong: the first `old` after this text becomes `new`. A statement (it ends in `;`) or an expression.
+    pub after: &'static str,
+    pub old: &'static str,
+    pub new: &'static str,
+}
+
+/// Of the antennas' module, seen in the answers of `hf_gains`.
+const SOURCE: Impostor = Impostor { name: "", call: "gains", file: "ccir.rs", after: "", old: "", new: "" };
+const CURTAIN: Impostor = Impostor { call: "curtain", after: "pub mod curtain", ..SOURCE };
+
+pub const IMPOSTORS: &[Impostor] = &[
+    Impostor { name: "a(90) mended", after: "fn trigfun", old: "a[90] = (90.05 * Q1).rule_sin();", new: "", ..SOURCE },
+    Impostor { name: "b(90) mended", after: "fn trigfun", old: "b[90] = (90.105 * Q1).rule_cos();", new: "", ..SOURCE },
+    Impostor { name: "b(0) mended", after: "fn trigfun", old: "b[0] = (0.005 as R).rule_cos();", new: "", ..SOURCE },
+    Impostor { name: "90 folded onto 270", after: "v > 180.0", old: "v <= 270.0", new: "v < 270.0", ..SOURCE },
+    Impostor {
+        name: "type 7 mirrored",
+        after: "// Horizontal rhombic.",
+        old: "1.0 - d3 - d2 + d4",
+        new: "1.0 - (d3 + d2) + d4",
+        ..SOURCE
+    },
+    // Two of them: where there is silence every elevation is an equal peak, so the last one must show without it too.
+    Impostor { name: "first of equal peaks", after: "fn gainorm", old: "z9 >= wmx", new: "z9 > wmx", ..SOURCE },
+    Impostor {
+        name: "first of equal peaks above 0",
+        after: "fn gainorm",
+        old: "z9 >= wmx",
+        new: "z9 > wmx || z9 == 0.0 && wmx == 0.0",
+        ..SOURCE
+    },
+    Impostor { name: "a new peak clears j", after: "fn azmax", old: "vmax = v;", new: "vmax = v; j = 0;", ..SOURCE },
+    Impostor {
+        name: "elevation 1 repeated",
+        after: "for iu in 1..=90",
+        old: "self.gainrel(u, v)",
+        new: "self.gainrel(1.0, v)",
+        ..SOURCE
+    },
+    Impostor { name: "-30 throughout", after: "fn ccirgain", old: "self.z6 == 0.0", new: "true", ..SOURCE },
+    Impostor { name: "silence before any reading", after: "fn antinit2", old: "ant.gainorm();", new: "", ..SOURCE },
+    Impostor { name: "90 readings", file: "source.rs", after: "fn met", old: "r.count += 1;", new: "r.count = 90;", ..SOURCE },
+    Impostor {
+        name: "every card turned away",
+        file: "expected.rs",
+        after: "let peak_finite",
+        old: "!readings.finite || !peak_finite",
+        new: "true",
+        ..SOURCE
+    },
+    Impostor { name: "table blank", after: "else if iant == 5 || iant == 6", old: "1..=ant.nat", new: "1..=0", ..SOURCE },
+    Impostor {
+        name: "lent table blank",
+        call: "row",
+        file: "expected.rs",
+        after: "fn copy_table",
+        old: "self.record.copy_table(table);",
+        new: "table[..TABLE].fill(0.0);",
+    },
+    Impostor { name: "type 0.49999997 is 0", file: "source.rs", after: "fn jant", old: "v + 0.5", new: "v.round()", ..SOURCE },
+    Impostor { name: "nint(0.49999997) is 0", old: "(v + 0.5) as i32", new: "v.round() as i32", ..CURTAIN },
+    Impostor {
+        name: "slew 27 is step 7",
+        old: "islew.abs() / 4",
+        new: "(islew.abs() + i32::from(islew.abs() == 27)) / 4",
+        ..CURTAIN
+    },
+    Impostor {
+        name: "slew 28 is step 6",
+        old: "islew.abs() / 4",
+        new: "(islew.abs() - i32::from(islew.abs() == 28)) / 4",
+        ..CURTAIN
+    },
+    Impostor { name: "sines left to right", old: "fzphr * cof", new: "fzphr * stheta * sphi", ..CURTAIN },
+];

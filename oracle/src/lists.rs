@@ -1,0 +1,250 @@
+//! What the stored lists ask: for each call some inputs by number, from the same seed each time, and before them the cases that show
+//! an impostor. `bin/write_stored.rs` writes the lists, `compare stored` holds those that are stored to these.
+use crate::calls::{Call, Value, CALLS};
+use crate::expected::{ROW, TABLE};
+use crate::impostor;
+use crate::impostors::{Impostor, IMPOSTORS};
+use crate::leaf::{NAMES, POWF};
+use crate::random::Random;
+use crate::record::{self, BYTES, WORDS};
+use crate::stored::{head, lent_bytes, lent_floats, lent_words, place, Record, ROOT};
+use crate::{broken, stations};
+
+/// The cases that an impostor has.
+pub const CASES: usize = 3;
+/// A case's name is this and its impostor's.
+const AGAINST: &str = "against ";
+/// Inputs that are searched for them.
+const SEARCHED: u64 = 300_000;
+
+/// A call's inputs by number.
+type Inputs = fn(&mut Random, u64) -> Vec<Value>;
+
+/// The inputs of a call in its list: how many, and which.
+fn inputs_of(call: &Call) -> (u64, Inputs) {
+    match call.name {
+        "leaf" => (2100, leaf),
+        "maxgain" => (140, maxgain),
+        "curtain" => (480, curtain),
+        "read" => (70, read),
+        "write" => (70, write),
+        "gains" => (240, gains),
+        "row" => (180, row),
+        "plate" => (100, plate),
+        name => panic!("{name} has no inputs"),
+    }
+}
+
+/// The nearest number of four digits, so that a list is short.
+fn short(x: f32) -> f32 {
+    format!("{x:.3e}").parse().expect("a number")
+}
+
+/// A station of any type, its realistic slots short numbers, and one float more.
+fn station(random: &mut Random) -> Vec<f32> {
+    let jant = 1 + random.below(9) as u32;
+    let parm = stations::realistic(random, jant).map(short);
+    stations::altered(random, parm).into_iter().chain([1.0]).collect()
+}
+
+/// A number near the use of the functions, one of any bits, or one where a rule changes.
+fn argument(random: &mut Random) -> f32 {
+    match random.below(4) {
+        0 => f32::from_bits(random.bits()),
+        1 => stations::odd(random),
+        2 => random.between(-720.0, 720.0),
+        _ => random.between(0.0, 2.0),
+    }
+}
+
+/// One in eight hundred has no function's number; the others are mostly in their function's domain.
+fn leaf(random: &mut Random, k: u64) -> Vec<Value> {
+    let which = if k % 800 == 799 { 7 } else { (k % NAMES.len() as u64) as u32 };
+    let (x, y) = (argument(random), argument(random));
+    let inside = random.below(8) > 0;
+    let a = if inside && [2, 3, POWF, 6].contains(&which) { x.abs() } else { x };
+    let b = match which {
+        POWF if inside => y.abs().fract(),
+        POWF => y,
+        _ => 0.0,
+    };
+    vec![Value::Word(which), Value::Word(a.to_bits()), Value::Word(b.to_bits())]
+}
+
+fn maxgain(random: &mut Random, k: u64) -> Vec<Value> {
+    let mode = if k % 12 == 11 { random.pick(&[3, 4, 255, 256, u32::MAX]) } else { (k % 3) as u32 };
+    let mut floats = station(random);
+    floats.truncate(20);
+    floats.extend((0..36).map(|_| short(random.between(-10.0, 30.0))));
+    let mhz = if random.below(8) == 0 { stations::odd(random) } else { short(random.between(1.0, 31.0)) };
+    floats.extend([mhz, if random.below(8) == 0 { stations::odd(random) } else { mhz / random.between(0.6, 1.5) }, 1.0]);
+    match k % 12 {
+        // Steps from one gain to the next that are more than a float holds.
+        4 | 5 => (20..56).for_each(|at| floats[at] = if at % 2 == 0 { 3e38 } else { -3e38 }),
+        6 => floats[20 + random.below(36) as usize] = random.pick(&[f32::NAN, f32::INFINITY]),
+        _ => {}
+    }
+    let (n, lent) = match k % 40 {
+        38 => (random.pick(&[0, 57, 59]), 21),
+        39 => (58, random.pick(&[0, 20, 22])),
+        _ => (58, 21),
+    };
+    floats.truncate(n);
+    vec![Value::Word(mode), Value::Floats(floats), lent_words(lent)]
+}
+
+/// One in a hundred integrates.
+fn curtain(random: &mut Random, k: u64) -> Vec<Value> {
+    let realistic = stations::curtain(random).map(short);
+    let mut parm = stations::disturbed(random, realistic).to_vec();
+    if k % 60 == 59 {
+        parm.resize(random.pick(&[0, 19, 21]), 1.0);
+    }
+    let aim = |random: &mut Random, low, high| match random.below(8) {
+        0 => stations::odd(random),
+        1 | 2 => random.between(low, high).round(),
+        _ => short(random.between(low, high)),
+    };
+    let (azimuth, elevation) = (aim(random, -400.0, 400.0), aim(random, -10.0, 100.0));
+    let factor = match k % 100 {
+        0 => -99_999.0,
+        _ => aim(random, 0.0, 20.0),
+    };
+    vec![Value::Floats(parm), Value::Float(azimuth), Value::Float(elevation), Value::Float(factor)]
+}
+
+/// 57 words, a mode and 56 floats' bits, and one more.
+fn words(random: &mut Random) -> [u32; 58] {
+    let mut words = [0; 58].map(|_: u32| stations::finite(random).to_bits());
+    words[0] = if random.below(8) == 0 { random.pick(&[4, 5, 256, u32::MAX]) } else { random.below(4) as u32 };
+    if random.below(8) == 0 {
+        words[1 + random.below(56) as usize] = random.pick(&[0x7f80_0000, 0xff80_0000, 0x7fc0_0000, 0x7f80_0001, 0xffff_ffff]);
+    }
+    words
+}
+
+/// The numbers of words and of bytes, one of them wrong in one of ten.
+fn lengths(random: &mut Random, k: u64) -> (usize, usize) {
+    match k % 20 {
+        18 => (random.pick(&[0, 1, 56, 58]), BYTES),
+        19 => (WORDS, random.pick(&[0, 1, 224, 226, 232])),
+        _ => (WORDS, BYTES),
+    }
+}
+
+fn read(random: &mut Random, k: u64) -> Vec<Value> {
+    let (lent, n) = lengths(random, k);
+    let mut bytes = vec![0; BYTES];
+    let written = words(random)[..WORDS].try_into().expect("57 words");
+    // Words that can't be written leave zeros, a record too.
+    let _ = record::write(&written, &mut bytes);
+    if random.below(4) == 0 {
+        broken::turn_a_bit(random, &mut bytes);
+    }
+    if random.below(8) == 0 {
+        broken::break_a_word(random, &mut bytes);
+    }
+    bytes.resize(n, 0);
+    vec![Value::Bytes(bytes), lent_words(lent)]
+}
+
+fn write(random: &mut Random, k: u64) -> Vec<Value> {
+    let (n, lent) = lengths(random, k);
+    vec![Value::Words(words(random)[..n].to_vec()), lent_bytes(lent)]
+}
+
+/// Degrees: whole, fractions, or odd.
+fn angle(random: &mut Random, high: f32) -> f32 {
+    match random.below(10) {
+        0 => stations::odd(random),
+        1 => short(random.between(-1000.0, 1000.0)),
+        2..=4 => short(random.between(0.0, high)),
+        _ => random.between(0.0, high).round(),
+    }
+}
+
+fn gains(random: &mut Random, k: u64) -> Vec<Value> {
+    let parm = station(random);
+    let directions: Vec<f32> = (0..17).map(|i| angle(random, if i % 2 == 0 { 90.0 } else { 360.0 })).collect();
+    let giso = stations::giso(random);
+    let (n, m, lent) = match k % 60 {
+        57 => (random.pick(&[0, 19, 21]), 16, 20),
+        58 => (20, random.pick(&[15, 17]), 20),
+        59 => (20, 16, random.pick(&[0, 4, 19, 21, 22])),
+        _ => (20, 16, 20),
+    };
+    vec![Value::Floats(parm[..n].to_vec()), Value::Float(giso), Value::Floats(directions[..m].to_vec()), lent_words(lent)]
+}
+
+fn row(random: &mut Random, k: u64) -> Vec<Value> {
+    let parm = station(random);
+    let (giso, elevation) = (stations::giso(random), broken::elevation(random));
+    let (n, table, row, lent) = match k % 30 {
+        26 => (random.pick(&[0, 19, 21]), TABLE, ROW, 5),
+        27 => (20, random.pick(&[0, 2821, TABLE - 1, TABLE + 1]), ROW, 5),
+        28 => (20, TABLE, random.pick(&[0, 359, 361]), 5),
+        29 => (20, TABLE, ROW, random.pick(&[0, 4, 6])),
+        _ => (20, TABLE, ROW, 5),
+    };
+    let [giso, elevation] = [giso, elevation].map(Value::Float);
+    vec![Value::Floats(parm[..n].to_vec()), lent_floats(table), giso, elevation, lent_floats(row), lent_words(lent)]
+}
+
+fn plate(random: &mut Random, k: u64) -> Vec<Value> {
+    let mut input = broken::input(random);
+    input.truncate(240);
+    let lent = if k % 20 == 19 { random.pick(&[0, 100, 8191]) } else { 8192 + k as usize % 2 };
+    vec![Value::Bytes(input), lent_bytes(lent)]
+}
+
+/// Whether a stored record's input is kept: those of a number are made anew, a case goes with its impostor.
+fn kept(call: &Call, record: &Record) -> bool {
+    let shown = |name| IMPOSTORS.iter().any(|impostor| impostor.call == call.name && impostor.name == name);
+    record.name.strip_prefix(AGAINST).map_or(record.name.parse::<u64>().is_err(), shown)
+}
+
+/// The stored records that are kept.
+fn named(call: &Call) -> Vec<Record> {
+    let text = std::fs::read_to_string(format!("{ROOT}{}", place(call))).unwrap_or_default();
+    let record = |line| Record::read(call, line).unwrap_or_else(|| panic!("{}: not a record: {line}", place(call)));
+    text.lines().skip(1).map(record).filter(|record| kept(call, record)).collect()
+}
+
+fn name_of(impostor: &Impostor) -> String {
+    format!("{AGAINST}{}", impostor.name)
+}
+
+/// The stored cases that show this impostor.
+pub fn cases_of(call: &Call, impostor: &Impostor) -> Vec<Record> {
+    named(call).into_iter().filter(|record| record.name == name_of(impostor)).collect()
+}
+
+/// Whether the impostor of this number answers the record otherwise than the oracle.
+pub fn shows(call: &Call, record: &Record, k: usize) -> bool {
+    let wrong = impostor::with(Some(k), || record.outcome(call.impostor));
+    record.line(&wrong) != record.line(&record.outcome(call.oracle))
+}
+
+/// New cases for an impostor that has too few.
+fn found(call: &Call, k: usize, impostor: &Impostor) -> Vec<Record> {
+    let mut random = Random(1000 + k as u64);
+    let missing = CASES.saturating_sub(cases_of(call, impostor).len());
+    let tried = (0..SEARCHED).map(|n| Record { name: name_of(impostor), given: inputs_of(call).1(&mut random, n) });
+    tried.filter(|record| shows(call, record, k)).take(missing).collect()
+}
+
+/// A call's list with the oracle's answers: the cases, then the numbered ones. Each call has a seed of its own.
+fn list(seed: usize, call: &Call) -> String {
+    let (count, inputs) = inputs_of(call);
+    let mut random = Random(21 + seed as u64);
+    let impostors = IMPOSTORS.iter().enumerate().filter(|(_, impostor)| impostor.call == call.name);
+    let numbered = (0..count).map(|k| Record { name: k.to_string(), given: inputs(&mut random, k) });
+    let records = named(call).into_iter().chain(impostors.flat_map(|(k, impostor)| found(call, k, impostor))).chain(numbered);
+    let lines = records.map(|record| record.line(&record.outcome(call.oracle)));
+    [head(call)].into_iter().chain(lines).map(|line| line + "\n").collect()
+}
+
+/// The lists: their place below the repository's root, and their bytes.
+pub fn files() -> Vec<(String, Vec<u8>)> {
+    CALLS.iter().enumerate().map(|(seed, call)| (place(call), list(seed, call).into_bytes())).collect()
+}
