@@ -1,4 +1,4 @@
--- Document 01, "Answers": the numbers of the refusals, by their names there; src/lib.rt has the same for the code. Definitions only.
+-- Documents 01 and 02, "Answers": the numbers of the refusals, by their names there; src/lib.rt has the same for the code. Definitions only.
 use Prim.Native.Nat.{ℕ}
 
 abbrev pub RECORD : ℕ
@@ -33,3 +33,23 @@ PATTERN = 9
 -- the number asked for isn't finite
 abbrev pub LEVEL : ℕ
 LEVEL = 10
+
+abbrev pub CALENDAR : ℕ
+CALENDAR = 11
+
+-- a row of a band book
+abbrev pub ROW : ℕ
+ROW = 12
+
+abbrev pub GAP : ℕ
+GAP = 13
+
+abbrev pub OVERLAP : ℕ
+OVERLAP = 14
+
+-- a call on the board that can't be: no such id, already on, or not on
+abbrev pub CALL : ℕ
+CALL = 16
+
+abbrev pub FULL : ℕ
+FULL = 17

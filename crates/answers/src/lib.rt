@@ -1,4 +1,4 @@
-// The numbers of document 01's refusals, by their names there. What an answer is stands in
+// The numbers of the refusals of documents 01 and 02, by their names there. What an answer is stands in
 // specs/Outcome.antt, and the same numbers for definitions in specs/Refusals.antt.
 
 pub const RECORD: u8 = 1;
@@ -23,3 +23,17 @@ pub const PATTERN: u8 = 9;
 
 // The number asked for isn't finite.
 pub const LEVEL: u8 = 10;
+
+pub const CALENDAR: u8 = 11;
+
+// A row of a band book.
+pub const ROW: u8 = 12;
+
+pub const GAP: u8 = 13;
+
+pub const OVERLAP: u8 = 14;
+
+// A call on the board that can't be: no such id, already on, or not on.
+pub const CALL: u8 = 16;
+
+pub const FULL: u8 = 17;

@@ -1,5 +1,5 @@
 -- `hf_curtain`: the curtain's gain, its answer as one number. Definitions only.
-use Prim.Native.Nat.{ℕ, _+_, _*_, _^_}
+use Prim.Native.Nat.{ℕ}
 use mathlib.Core.Bool.{cond, not}
 use mathlib.Core.List.{List}
 use lib.ListN.{length}
@@ -7,11 +7,12 @@ use lib.Dec.{eqb}
 use lib.Ieee.{Float, binary32, toBits}
 use Rattle.answers.specs.Outcome.{Outcome, refused, accepted}
 use Rattle.curtain.specs.Answers.{curtainGain}
+use Rattle.service.specs.Packed.{refusedAs}
 
--- kind × 2^32 plus a word: kind 0 is a level with its bits, kind 3 a refusal with its number
+-- a level's bits, or the refusal's number under kind 3
 unfoldable pub packed : Outcome Float → ℕ
 packed (accepted x) = toBits binary32 x
-packed (refused n) = 3 * 2 ^ 32 + n
+packed (refused n) = refusedAs n
 
 -- 8 for parameters of another number
 unfoldable pub curtainCall : List Float → Float → Float → Float → ℕ

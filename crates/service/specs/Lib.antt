@@ -1,5 +1,6 @@
 -- The definitions that the contracts cite: one file for each module.
 pub mod Lists
+pub mod Packed
 pub mod Leaf
 pub mod Maximum
 pub mod Curtain

@@ -1,13 +1,11 @@
 // The curtain's gain, its answer as one number.
 use crate::arrays::parm_at;
+use crate::packed::REFUSED;
 use curtain::answer::Gain;
 use numeric::bits::bits_of;
 ghost use mathlib.Core.Path.{_≡_};
 ghost use Rattle.curtain.specs.Answers.{answerOf};
 ghost use Rattle.service.specs.Curtain.{packed, curtainCall};
-
-// Kind 3, a refusal, in the upper half.
-const REFUSED: u64 = 0x3_0000_0000;
 
 // Kind 0 with a level's bits, or kind 3 with a refusal's number.
 fn pack(g: Gain) -> u64

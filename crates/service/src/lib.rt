@@ -5,6 +5,7 @@ pub mod gains;
 pub mod leaf;
 mod lent;
 pub mod maximum;
+mod packed;
 pub mod plates;
 pub mod record;
 pub mod rows;
