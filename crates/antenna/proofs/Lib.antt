@@ -1,4 +1,5 @@
 -- Laws that other crates cite, and what the proofs of several modules share; what those of one module share stands in its folder.
+pub mod Answered
 pub mod Edges
 pub mod Mirror
 pub mod RowGains

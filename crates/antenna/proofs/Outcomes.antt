@@ -1,7 +1,7 @@
 -- What an accepted call says: its limits were met, and its numbers are finite.
 use Prim.Native.Nat.{ℕ}
-use mathlib.Core.Path.{_≡_, refl, sym, ap, _∙_}
-use mathlib.Core.Bool.{Bool, true, false, not, cond, _&&_}
+use mathlib.Core.Path.{_≡_, sym, ap, _∙_}
+use mathlib.Core.Bool.{true, false, not, _&&_}
 use mathlib.Core.List.{List}
 use native.Mathlib.Omega.{arith}
 use borrow.Author.Tests.{ltb-false, not-false}
@@ -13,7 +13,8 @@ use Rattle.model.specs.Types.{jantOf}
 use Rattle.floats.specs.Ranges.{allFinite}
 use Rattle.floats.proofs.Tests.{both}
 use Rattle.ground.specs.Table.{tableOf}
-use Rattle.answers.specs.Outcome.{Outcome, refused, accepted}
+use Rattle.answers.specs.Outcome.{accepted}
+use Rattle.answers.proofs.Outcome.{passed, same}
 use Rattle.model.specs.Limits.{slot}
 use Rattle.antenna.specs.Asked.{askedRefusal}
 use Rattle.antenna.specs.Limits.{startOf, refusalOf}
@@ -23,14 +24,6 @@ use Rattle.antenna.specs.Gain.{Kind, graded, numberAt, gainAsked, gainOf
 use Rattle.antenna.specs.Row.{numbersOf, frontToBack, measured, rowAsked, rowOf}
 use Rattle.antenna.specs.declared.record.Antenna.{Antenna}
 use Rattle.antenna.specs.declared.search.Search.{Search}
-
--- an accepted outcome passed its first test
-pub passed : {A : Type 0} (b : Bool) (n : ℕ) (rest : Outcome A) {x : A} → cond b (refused n) rest ≡ accepted x → (b ≡ false) × (rest ≡ accepted x)
-passed true n rest h = let z : _≡_ {A = ℕ} 0 1 = cc in absurd (omega arith)
-passed false n rest h = (refl, h)
-
-same : {A : Type 0} {x y : A} → accepted x ≡ accepted y → x ≡ y
-same h = cc
 
 -- ---- set-up
 

@@ -12,13 +12,14 @@ use lib.Ieee.Scale.{finite}
 use lib.Ieee.Back.{positive-back}
 use Rattle.floats.specs.Ops.{count}
 use Rattle.answers.specs.Outcome.{accepted}
+use Rattle.answers.proofs.Outcome.{passed}
 use Rattle.floats.proofs.Tests.{both, finite-at}
 use Rattle.floats.proofs.Filled.{filled-length, filled-at}
 use Rattle.antenna.specs.Asked.{askedRefusal}
 use Rattle.antenna.specs.Gain.{kindOf, graded, numberAt, gainAsked, gainOf}
 use Rattle.antenna.specs.Row.{numbersOf, rowAsked, rowOf}
 use Rattle.antenna.specs.declared.record.Antenna.{Antenna}
-use Rattle.antenna.proofs.Outcomes.{passed, accepted-row-finite}
+use Rattle.antenna.proofs.Outcomes.{accepted-row-finite}
 use Rattle.antenna.proofs.Granted.{Granted, granted, none-refused}
 
 whole-finite : (x : Float) → T (inSigned binary32 31 x) → finite x ≡ true

@@ -1,2 +1,2 @@
 -- What the proofs of set-up's steps share.
-mod Accepted
+pub mod Accepted

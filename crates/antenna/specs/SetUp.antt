@@ -1,6 +1,6 @@
 -- Document 01, part 7: `antinit2`, set-up from the twenty parameters, with its refusals. Definitions only.
 use Prim.Native.Nat.{ℕ}
-use mathlib.Core.Bool.{Bool, cond, not, _&&_}
+use mathlib.Core.Bool.{Bool, false, cond, not, _&&_}
 use mathlib.Core.List.{List}
 use lib.ListN.{length, replicate}
 use lib.Dec.{ltb}
@@ -22,7 +22,7 @@ use Rattle.words.specs.Laid.{laid}
 use Rattle.antenna.specs.Whole.{nonZero}
 use Rattle.model.specs.Limits.{slot}
 use Rattle.antenna.specs.Limits.{nelOf, startOf, refusalOf}
-use Rattle.antenna.specs.TypeConstants.{rlambdaOf, betaOf, constantsOf}
+use Rattle.antenna.specs.TypeConstants.{rlambdaOf, betaOf, waveConstants, constantsOf}
 use Rattle.antenna.specs.Search.{gainormOf}
 use Rattle.antenna.specs.declared.record.Antenna.{Antenna}
 use Rattle.antenna.specs.declared.search.Search.{Search}
@@ -66,11 +66,11 @@ modelOf iant p =
 
 -- a gain met in the search, or z6, umax, vmax after it, isn't finite
 unfoldable pub searchRefused : Search → Bool
-searchRefused s = not (s .sound && finite (s .peak .z6) && finite (s .peak .umax) && finite (s .peak .vmax))
+searchRefused s = not (s .tally .sound && finite (s .peak .z6) && finite (s .peak .umax) && finite (s .peak .vmax))
 
 -- the antenna record with the readings of its search
 unfoldable pub acceptedOf : Model → Search → Outcome (Antenna × ℕ)
-acceptedOf m s = accepted (record { model = m; peak = s .peak }, s .readings)
+acceptedOf m s = accepted (record { model = m; peak = s .peak }, s .tally .readings)
 
 unfoldable pub found : Model → Search → Outcome (Antenna × ℕ)
 found m s = cond (searchRefused s) (refused PATTERN) (acceptedOf m s)
@@ -92,6 +92,32 @@ setUpAnswer s = said (s .answer) (s .antenna)
     said : Prepared → Antenna → Outcome (Antenna × ℕ)
     said (Ready n) a = accepted (a, n)
     said (Refused n) a = refused n
+
+-- an antenna of no type, which gain and row refuse: what stands beside a refusal
+unfoldable pub noAntenna : Antenna
+noAntenna = record {
+  model = record {
+    iant = 0;
+    slewed = false;
+    constants = waveConstants (replicate 20 +0);
+    elements = noElements .elements;
+    trig = record { a = replicate 91 +0; b = replicate 91 +0 };
+    ground = record {
+      w3 = replicate 91 +0;
+      w4 = replicate 91 +0;
+      w5 = replicate 91 +0;
+      w6 = replicate 91 +0;
+      w9 = replicate 91 +0;
+      w10 = replicate 91 +0;
+    };
+  };
+  peak = record { z6 = +0; umax = +0; vmax = +0 };
+}
+
+-- the antenna record beside the answer
+unfoldable pub besideOf : Outcome (Antenna × ℕ) → Antenna
+besideOf (refused n) = noAntenna
+besideOf (accepted a) = a .0
 
 -- the lent floats afterwards: the antenna's table, then those past it; after a refusal what they were
 unfoldable pub keptAfter : Outcome (Antenna × ℕ) → List Float → List Float

@@ -9,74 +9,61 @@ ghost use mathlib.Core.Bool.{true};
 ghost use lib.ListN.{length};
 ghost use Rattle.model.specs.Counts.{countsOk};
 ghost use Rattle.model.specs.Table.{tableSize};
-ghost use Rattle.antenna.specs.Search.{noted, steps, sweepBest, sweepStep, plateauCentre, azimuthBest, azimuthStep, turnsIn, passFrom, azmaxOf, elevationBest, elevationTo, unread, planeElevation, planeSearched, lastSearched, planeScan, azimuthScan, wrapped, endedAt, endedBy, lastPass, gainormOf};
+ghost use Rattle.antenna.specs.Search.{untold, tallied, turns, plateauCentre, azmaxRead, turnsIn, azmaxTurn, azmaxOf, sweepRead, sweepOf, planeElevation, planeOf, planeSearched, aimOf, elevationRead, elevationsTo, wrapped, refinedOf, unrefined, lastSearched, gainormOf};
 
-// The largest gain of a pass, where it is, and how many readings have equalled it.
-pub struct Best {
-    pub rmax: f32,
-    pub place: f32,
-    pub j: u32,
-}
-
-// A pass under way: the azimuth v to read next, what was found, the readings so far, and whether
-// each of them was finite.
-pub struct Scan {
-    pub v: f32,
-    pub best: Best,
+// The readings so far, and whether each of them was finite.
+pub struct Tally {
     pub readings: u64,
     pub sound: bool,
+}
+
+// A pass over azimuths under way: the largest gain, its azimuth, how many readings have equalled
+// it, and the azimuth v to read next.
+pub struct Azimuths {
+    pub rmax: f32,
+    pub vmax: f32,
+    pub j: u32,
+    pub v: f32,
+    pub tally: Tally,
+}
+
+// The azimuth of the elevation pass.
+pub struct Aimed {
+    pub vmax: f32,
+    pub tally: Tally,
+}
+
+// The pass over elevations under way: the largest gain and its elevation.
+pub struct Elevations {
+    pub wmx: f32,
+    pub umax: f32,
+    pub tally: Tally,
 }
 
 pub struct Search {
     pub peak: Peak,
-    pub readings: u64,
-    pub sound: bool,
+    pub tally: Tally,
+}
+
+// Before any reading.
+fn no_tally() -> Tally
+    ensures { λ r. ⌜ r ≡ untold ⌝ }
+{
+    Tally {
+        readings: 0,
+        sound: true,
+    }
 }
 
 // One more reading, of the gain z9.
-fn note(s: Scan, z9: f32, best: Best, v: f32) -> Scan
-    requires { ⌜ s .readings < 2 ^ 40 ⌝ }
-    ensures { λ r. ⌜ r ≡ noted s z9 best v ⌝ }
+fn tally_of(t: Tally, z9: f32) -> Tally
+    requires { ⌜ t .readings < 2 ^ 40 ⌝ }
+    ensures { λ r. ⌜ r ≡ tallied t z9 ⌝ }
 {
-    Scan {
-        v,
-        best,
-        readings: s.readings + 1,
-        sound: s.sound & numeric::float::is_finite(z9),
+    Tally {
+        readings: t.readings + 1,
+        sound: t.sound & numeric::float::is_finite(z9),
     }
-}
-
-// The sweep keeps the first of equal gains.
-fn sweep_best(b: Best, v: f32, z9: f32) -> Best
-    ensures { λ r. ⌜ r ≡ sweepBest b v z9 ⌝ }
-{
-    if z9 > b.rmax {
-        Best {
-            rmax: z9,
-            place: v,
-            ..b
-        }
-    } else {
-        b
-    }
-}
-
-// Nineteen readings, 10 degrees apart.
-fn sweep(m: Model, table: &[f32], u: f32, s: Scan) -> Scan
-    requires { ⌜ (countsOk m ≡ true) × (tableSize ≤ length (now table)) × (s .readings ≡ 0) ⌝ }
-    ensures { λ r. ⌜ r ≡ steps (sweepStep m (now (table .entry)) u) s 19 ⌝ }
-    ensures { λ r. ⌜ r .readings ≡ 19 ⌝ }
-{
-    let mut out = s;
-    let mut i: u32 = 0;
-    while i < 19 {
-        let v = out.v;
-        let z9 = gainrel(m, table, u, v);
-        let best = sweep_best(out.best, v, z9);
-        out = note(out, z9, best, v + 10.0);
-        i += 1;
-    }
-    out
 }
 
 // The centre of a plateau of j readings that ends at v.
@@ -91,44 +78,37 @@ fn plateau_centre(vmax: f32, v: f32, j: u32) -> f32
 }
 
 // `azmax`'s rule for one reading: a new peak does not clear j.
-fn azimuth_best(b: Best, v: f32, z9: f32) -> Best
-    requires { ⌜ b .j < 2 ^ 31 ⌝ }
-    ensures { λ r. ⌜ r ≡ azimuthBest b v z9 ⌝ }
+fn azmax_read(s: Azimuths, vm: f32, z9: f32) -> Azimuths
+    requires { ⌜ (s .j < 2 ^ 31) × (s .tally .readings < 2 ^ 40) ⌝ }
+    ensures { λ r. ⌜ r ≡ azmaxRead s vm z9 ⌝ }
 {
-    if z9 < b.rmax {
-        return Best { j: 0, ..b };
-    }
-    if z9 > b.rmax {
-        return Best {
-            rmax: z9,
-            place: v,
-            j: b.j,
+    let tally = tally_of(s.tally, z9);
+    let v = s.v + vm;
+    if z9 < s.rmax {
+        return Azimuths {
+            j: 0,
+            v,
+            tally,
+            ..s
         };
     }
-    let j = b.j + 1;
-    Best {
+    if z9 > s.rmax {
+        return Azimuths {
+            rmax: z9,
+            vmax: s.v,
+            v,
+            tally,
+            ..s
+        };
+    }
+    let j = s.j + 1;
+    Azimuths {
         rmax: z9,
-        place: plateau_centre(b.place, v, j),
+        vmax: plateau_centre(s.vmax, s.v, j),
         j,
+        v,
+        tally,
     }
-}
-
-// `count` readings, vm degrees apart.
-fn azimuth_pass(m: Model, table: &[f32], u: f32, vm: f32, s: Scan, count: u32) -> Scan
-    requires { ⌜ (countsOk m ≡ true) × (tableSize ≤ length (now table)) × (s .readings < 2 ^ 36) × (s .best .j ≡ 0) × (count < 2 ^ 31) ⌝ }
-    ensures { λ r. ⌜ r ≡ steps (azimuthStep m (now (table .entry)) u vm) s count ⌝ }
-    ensures { λ r. ⌜ r .readings ≡ s .readings + count ⌝ }
-{
-    let mut out = s;
-    let mut i: u32 = 0;
-    while i < count {
-        let v = out.v;
-        let z9 = gainrel(m, table, u, v);
-        let best = azimuth_best(out.best, v, z9);
-        out = note(out, z9, best, v + vm);
-        i += 1;
-    }
-    out
 }
 
 // How often Fortran's DO loop turns, by its count as a real number.
@@ -140,73 +120,89 @@ fn turns_in(x: f32) -> u32
     if n < 0 { 0 } else { n as u32 }
 }
 
-// The start of a pass at azimuth v, with the gain and the place that it starts from.
-fn pass_from(s: Scan, v: f32, rmax: f32, place: f32) -> Scan
-    ensures { λ r. ⌜ r ≡ passFrom s v rmax place ⌝ }
-{
-    let best = Best { rmax, place, j: 0 };
-    Scan { v, best, ..s }
-}
-
-// `azmax` from vmin1 to vmax1 in steps of vm, with the scan's rmax and vmax to start from.
-fn azmax(m: Model, table: &[f32], u: f32, vmin1: f32, vmax1: f32, vm: f32, s: Scan) -> Scan
-    requires { ⌜ (countsOk m ≡ true) × (tableSize ≤ length (now table)) × (s .readings < 2 ^ 36) ⌝ }
-    ensures { λ r. ⌜ r ≡ azmaxOf m (now (table .entry)) u vmin1 vmax1 vm s ⌝ }
-    ensures { λ r. ⌜ r .readings < s .readings + 2 ^ 31 ⌝ }
-{
-    let count = turns_in((vmax1 - vmin1 + vm) / vm);
-    let start = pass_from(s, vmin1, s.best.rmax, s.best.place);
-    azimuth_pass(m, table, u, vm, start, count)
-}
-
-// The elevation pass keeps the last of equal gains.
-fn elevation_best(b: Best, u: f32, z9: f32) -> Best
-    ensures { λ r. ⌜ r ≡ elevationBest b u z9 ⌝ }
-{
-    if z9 >= b.rmax {
-        Best {
-            rmax: z9,
-            place: u,
-            ..b
-        }
-    } else {
-        b
-    }
-}
-
-// Elevations 1 to 90 at the scan's azimuth.
-fn elevation_pass(m: Model, table: &[f32], s: Scan) -> Scan
-    requires { ⌜ (countsOk m ≡ true) × (tableSize ≤ length (now table)) × (s .readings < 2 ^ 36) ⌝ }
-    ensures { λ r. ⌜ r ≡ elevationTo m (now (table .entry)) s 90 ⌝ }
-    ensures { λ r. ⌜ r .readings ≡ s .readings + 90 ⌝ }
+// `count` readings, vm degrees apart.
+fn azmax_turns(m: Model, table: &[f32], u: f32, vm: f32, s: Azimuths, count: u32) -> Azimuths
+    requires { ⌜ (countsOk m ≡ true) × (tableSize ≤ length (now table)) × (s .tally .readings < 2 ^ 36) × (s .j ≡ 0) × (count < 2 ^ 31) ⌝ }
+    ensures { λ r. ⌜ r ≡ turns (azmaxTurn m (now (table .entry)) u vm) s count ⌝ }
+    ensures { λ r. ⌜ r .tally .readings ≡ s .tally .readings + count ⌝ }
 {
     let mut out = s;
-    let mut iu: u16 = 0;
-    while iu < 90 {
-        iu += 1;
-        let u = iu as f32;
+    let mut i: u32 = 0;
+    while i < count {
         let z9 = gainrel(m, table, u, out.v);
-        let best = elevation_best(out.best, u, z9);
-        out = note(out, z9, best, out.v);
+        out = azmax_read(out, vm, z9);
+        i += 1;
     }
     out
 }
 
-// Before any reading.
-fn unread_scan(v: f32, place: f32) -> Scan
-    ensures { λ r. ⌜ r ≡ unread v place ⌝ }
+// `azmax` from vmin1 to vmax1 in steps of vm.
+fn azmax(
+    m: Model,
+    table: &[f32],
+    u: f32,
+    vmin1: f32,
+    vmax1: f32,
+    vm: f32,
+    rmax0: f32,
+    vmax0: f32,
+    tally: Tally,
+) -> Azimuths
+    requires { ⌜ (countsOk m ≡ true) × (tableSize ≤ length (now table)) × (tally .readings < 2 ^ 36) ⌝ }
+    ensures { λ r. ⌜ r ≡ azmaxOf m (now (table .entry)) u vmin1 vmax1 vm rmax0 vmax0 tally ⌝ }
+    ensures { λ r. ⌜ r .tally .readings < tally .readings + 2 ^ 31 ⌝ }
 {
-    let best = Best {
-        rmax: 0.0,
-        place,
+    let count = turns_in((vmax1 - vmin1 + vm) / vm);
+    let start = Azimuths {
+        rmax: rmax0,
+        vmax: vmax0,
         j: 0,
+        v: vmin1,
+        tally,
     };
-    Scan {
-        v,
-        best,
-        readings: 0,
-        sound: true,
+    azmax_turns(m, table, u, vm, start, count)
+}
+
+// The sweep keeps the first of equal gains.
+fn sweep_read(s: Azimuths, z9: f32) -> Azimuths
+    requires { ⌜ s .tally .readings < 2 ^ 40 ⌝ }
+    ensures { λ r. ⌜ r ≡ sweepRead s z9 ⌝ }
+{
+    let tally = tally_of(s.tally, z9);
+    let v = s.v + 10.0;
+    if z9 > s.rmax {
+        return Azimuths {
+            rmax: z9,
+            vmax: s.v,
+            v,
+            tally,
+            ..s
+        };
     }
+    Azimuths { v, tally, ..s }
+}
+
+// Nineteen readings, 10 degrees apart, from 270 on.
+fn sweep(m: Model, table: &[f32], u: f32, vmax: f32) -> Azimuths
+    requires { ⌜ (countsOk m ≡ true) × (tableSize ≤ length (now table)) ⌝ }
+    ensures { λ r. ⌜ r ≡ sweepOf m (now (table .entry)) u vmax ⌝ }
+    ensures { λ r. ⌜ r .tally .readings ≡ 19 ⌝ }
+{
+    let tally = no_tally();
+    let mut out = Azimuths {
+        rmax: 0.0,
+        vmax,
+        j: 0,
+        v: 270.0,
+        tally,
+    };
+    let mut i: u32 = 0;
+    while i < 19 {
+        let z9 = gainrel(m, table, u, out.v);
+        out = sweep_read(out, z9);
+        i += 1;
+    }
+    out
 }
 
 fn plane_elevation(iant: u32) -> f32
@@ -216,16 +212,20 @@ fn plane_elevation(iant: u32) -> f32
 }
 
 // The horizontal plane of a slewed or tropical pattern, from the start azimuth vmax.
-fn plane_scan(m: Model, table: &[f32], vmax: f32) -> Scan
+fn plane(m: Model, table: &[f32], vmax: f32) -> Aimed
     requires { ⌜ (countsOk m ≡ true) × (tableSize ≤ length (now table)) ⌝ }
-    ensures { λ r. ⌜ r ≡ planeScan m (now (table .entry)) vmax ⌝ }
-    ensures { λ r. ⌜ r .readings < 2 ^ 32 ⌝ }
+    ensures { λ r. ⌜ r ≡ planeOf m (now (table .entry)) vmax ⌝ }
+    ensures { λ r. ⌜ r .tally .readings < 2 ^ 32 ⌝ }
 {
     let u = plane_elevation(m.iant);
-    let start = unread_scan(270.0, vmax);
-    let swept = sweep(m, table, u, start);
-    let v = swept.best.place;
-    azmax(m, table, u, v - 10.0, v + 10.0, 1.0, swept)
+    let s = sweep(m, table, u, vmax);
+    let v = s.vmax;
+    let r = azmax(m, table, u, v - 10.0, v + 10.0, 1.0, s.rmax, v, s.tally);
+    let tally = r.tally;
+    Aimed {
+        vmax: r.vmax,
+        tally,
+    }
 }
 
 fn plane_searched(iant: u32, slewed: bool) -> bool
@@ -234,23 +234,50 @@ fn plane_searched(iant: u32, slewed: bool) -> bool
     (iant == 4) | ((iant < 4) & slewed)
 }
 
-fn last_searched(iant: u32, slewed: bool) -> bool
-    ensures { λ r. ⌜ r ≡ lastSearched iant slewed ⌝ }
-{
-    slewed | (iant == 4)
-}
-
-// The scan whose place is the azimuth of the elevation pass.
-fn azimuth_scan(m: Model, table: &[f32], vmax: f32) -> Scan
+// The azimuth of the elevation pass.
+fn aim(m: Model, table: &[f32], vmax: f32) -> Aimed
     requires { ⌜ (countsOk m ≡ true) × (tableSize ≤ length (now table)) ⌝ }
-    ensures { λ r. ⌜ r ≡ azimuthScan m (now (table .entry)) vmax ⌝ }
-    ensures { λ r. ⌜ r .readings < 2 ^ 32 ⌝ }
+    ensures { λ r. ⌜ r ≡ aimOf m (now (table .entry)) vmax ⌝ }
+    ensures { λ r. ⌜ r .tally .readings < 2 ^ 32 ⌝ }
 {
     if plane_searched(m.iant, m.slewed) {
-        plane_scan(m, table, vmax)
-    } else {
-        unread_scan(0.0, 0.0)
+        return plane(m, table, vmax);
     }
+    let tally = no_tally();
+    Aimed { vmax: 0.0, tally }
+}
+
+// The elevation pass keeps the last of equal gains.
+fn elevation_read(e: Elevations, u: f32, z9: f32) -> Elevations
+    requires { ⌜ e .tally .readings < 2 ^ 40 ⌝ }
+    ensures { λ r. ⌜ r ≡ elevationRead e u z9 ⌝ }
+{
+    let tally = tally_of(e.tally, z9);
+    if z9 >= e.wmx {
+        return Elevations {
+            wmx: z9,
+            umax: u,
+            tally,
+        };
+    }
+    Elevations { tally, ..e }
+}
+
+// Elevations 1 to 90 at azimuth v.
+fn elevation_pass(m: Model, table: &[f32], v: f32, e: Elevations) -> Elevations
+    requires { ⌜ (countsOk m ≡ true) × (tableSize ≤ length (now table)) × (e .tally .readings < 2 ^ 36) ⌝ }
+    ensures { λ r. ⌜ r ≡ elevationsTo m (now (table .entry)) v e 90 ⌝ }
+    ensures { λ r. ⌜ r .tally .readings ≡ e .tally .readings + 90 ⌝ }
+{
+    let mut out = e;
+    let mut iu: u16 = 0;
+    while iu < 90 {
+        iu += 1;
+        let u = iu as f32;
+        let z9 = gainrel(m, table, u, v);
+        out = elevation_read(out, u, z9);
+    }
+    out
 }
 
 fn wrap(v: f32) -> f32
@@ -259,50 +286,38 @@ fn wrap(v: f32) -> f32
     if v >= 360.0 { v - 360.0 } else { v }
 }
 
-// The search that ends with the elevation pass e at azimuth v.
-fn ended_at(e: Scan, v: f32) -> Search
-    ensures { λ r. ⌜ r ≡ endedAt e v ⌝ }
+// The last azimuth pass, 5 degrees to each side of v.
+fn refine(m: Model, table: &[f32], e: Elevations, v: f32) -> Search
+    requires { ⌜ (countsOk m ≡ true) × (tableSize ≤ length (now table)) × (e .tally .readings < 2 ^ 36) ⌝ }
+    ensures { λ r. ⌜ r ≡ refinedOf m (now (table .entry)) e v ⌝ }
+{
+    let umax = e.umax;
+    let s = azmax(m, table, umax, v - 5.0, v + 5.0, 1.0, e.wmx, v, e.tally);
+    let peak = Peak {
+        z6: s.rmax,
+        umax,
+        vmax: wrap(s.vmax),
+    };
+    let tally = s.tally;
+    Search { peak, tally }
+}
+
+fn leave_unrefined(e: Elevations, v: f32) -> Search
+    ensures { λ r. ⌜ r ≡ unrefined e v ⌝ }
 {
     let peak = Peak {
-        z6: e.best.rmax,
-        umax: e.best.place,
+        z6: e.wmx,
+        umax: e.umax,
         vmax: v,
     };
-    Search {
-        peak,
-        readings: e.readings,
-        sound: e.sound,
-    }
+    let tally = e.tally;
+    Search { peak, tally }
 }
 
-// The search that ends with the azimuth pass s at elevation umax.
-fn ended_by(umax: f32, s: Scan) -> Search
-    ensures { λ r. ⌜ r ≡ endedBy umax s ⌝ }
+fn last_searched(iant: u32, slewed: bool) -> bool
+    ensures { λ r. ⌜ r ≡ lastSearched iant slewed ⌝ }
 {
-    let peak = Peak {
-        z6: s.best.rmax,
-        umax,
-        vmax: wrap(s.best.place),
-    };
-    Search {
-        peak,
-        readings: s.readings,
-        sound: s.sound,
-    }
-}
-
-fn last_pass(m: Model, table: &[f32], e: Scan, v: f32) -> Search
-    requires { ⌜ (countsOk m ≡ true) × (tableSize ≤ length (now table)) × (e .readings < 2 ^ 36) ⌝ }
-    ensures { λ r. ⌜ r ≡ lastPass m (now (table .entry)) e v ⌝ }
-{
-    if last_searched(m.iant, m.slewed) {
-        let umax = e.best.place;
-        let start = pass_from(e, v, e.best.rmax, v);
-        let refined = azmax(m, table, umax, v - 5.0, v + 5.0, 1.0, start);
-        ended_by(umax, refined)
-    } else {
-        ended_at(e, v)
-    }
+    slewed | (iant == 4)
 }
 
 // `gainorm`: the pattern's maximum, from the start values of umax and vmax.
@@ -310,9 +325,18 @@ pub(crate) fn gainorm(m: Model, table: &[f32], start: Peak) -> Search
     requires { ⌜ (countsOk m ≡ true) × (tableSize ≤ length (now table)) ⌝ }
     ensures { λ r. ⌜ r ≡ gainormOf m (now (table .entry)) start ⌝ }
 {
-    let s = azimuth_scan(m, table, start.vmax);
-    let v = s.best.place;
-    let level = pass_from(s, v, 0.0, start.umax);
-    let e = elevation_pass(m, table, level);
-    last_pass(m, table, e, v)
+    let a = aim(m, table, start.vmax);
+    let v = a.vmax;
+    let tally = a.tally;
+    let level = Elevations {
+        wmx: 0.0,
+        umax: start.umax,
+        tally,
+    };
+    let e = elevation_pass(m, table, v, level);
+    if last_searched(m.iant, m.slewed) {
+        refine(m, table, e, v)
+    } else {
+        leave_unrefined(e, v)
+    }
 }

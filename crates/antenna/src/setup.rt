@@ -31,7 +31,7 @@ ghost use Rattle.model.specs.Counts.{countsOk};
 ghost use Rattle.logperiodic.specs.Active.{Listed};
 ghost use Rattle.answers.specs.Outcome.{refused};
 ghost use Rattle.antenna.specs.Limits.{slotsOk};
-ghost use Rattle.antenna.specs.SetUp.{designOf, noElements, elementsOf, slewedOf, modelOf, searchRefused, acceptedOf, setUpOf, setUpAnswer, lentAfter};
+ghost use Rattle.antenna.specs.SetUp.{designOf, noElements, elementsOf, slewedOf, modelOf, searchRefused, acceptedOf, setUpOf, setUpAnswer, noAntenna, besideOf, lentAfter};
 
 // How often the search read the gain, or the number of a refusal.
 pub enum Prepared {
@@ -39,7 +39,7 @@ pub enum Prepared {
     Refused(u8),
 }
 
-// The answer with the antenna record, which says nothing beside a refusal: an enum holds no arrays.
+// The answer with the antenna record, which is of no type beside a refusal: an enum holds no arrays.
 pub struct SetUp {
     pub answer: Prepared,
     pub antenna: Antenna,
@@ -125,14 +125,16 @@ fn search_refused(s: Search) -> bool
     ensures { λ r. ⌜ r ≡ searchRefused s ⌝ }
 {
     let peak = s.peak;
-    !(s.sound
+    !(s.tally.sound
         & numeric::float::is_finite(peak.z6)
         & numeric::float::is_finite(peak.umax)
         & numeric::float::is_finite(peak.vmax))
 }
 
 // A record of no type, which gain refuses.
-fn no_antenna() -> Antenna {
+fn no_antenna() -> Antenna
+    ensures { λ r. ⌜ r ≡ noAntenna ⌝ }
+{
     let l = no_elements();
     let elements = l.elements;
     let constants = wave_constants([0.0; 20]);
@@ -166,6 +168,7 @@ fn no_antenna() -> Antenna {
 
 fn refuse(number: u8) -> SetUp
     ensures { λ r. ⌜ setUpAnswer r ≡ refused number ⌝ }
+    ensures { λ r. ⌜ r .antenna ≡ noAntenna ⌝ }
 {
     let antenna = no_antenna();
     SetUp {
@@ -176,11 +179,12 @@ fn refuse(number: u8) -> SetUp
 
 fn accept(model: Model, s: Search) -> SetUp
     ensures { λ r. ⌜ setUpAnswer r ≡ acceptedOf model s ⌝ }
+    ensures { λ r. ⌜ r .antenna ≡ besideOf (acceptedOf model s) ⌝ }
 {
     let peak = s.peak;
     let antenna = Antenna { model, peak };
     SetUp {
-        answer: Prepared::Ready(s.readings),
+        answer: Prepared::Ready(s.tally.readings),
         antenna,
     }
 }
@@ -189,6 +193,7 @@ fn accept(model: Model, s: Search) -> SetUp
 pub fn antinit2(parm: [f32; 20], lent: &mut [f32]) -> SetUp
     ensures { λ r. ⌜ setUpAnswer r ≡ setUpOf parm (length (now (lent .entry))) ⌝ }
     ensures { λ _. ⌜ now (lent .exit) ≡ lentAfter parm (now (lent .entry)) ⌝ }
+    ensures { λ r. ⌜ r .antenna ≡ besideOf (setUpOf parm (length (now (lent .entry)))) ⌝ }
 {
     let iant = jant(parm[1]);
     let number = refusal(iant, parm, lent.len());

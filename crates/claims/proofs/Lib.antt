@@ -1,3 +1,5 @@
 -- The theorems: each has the name of its claim.
+pub mod Refusals
+pub mod Demand1
 pub mod MirrorLaw
 pub mod StarredEdges

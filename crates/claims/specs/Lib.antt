@@ -1,3 +1,6 @@
 -- The claims, one file for each.
+pub mod Tables
+pub mod Refusals
+pub mod Demand1
 pub mod MirrorLaw
 pub mod StarredEdges

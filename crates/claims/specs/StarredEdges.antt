@@ -4,7 +4,7 @@ use mathlib.Core.Path.{_≡_}
 use mathlib.Core.Bool.{false}
 use mathlib.Core.List.{List}
 use lib.IntN.{pos, negℤ}
-use lib.ListN.{set, replicate}
+use lib.ListN.{length, set, replicate}
 use lib.Ieee.{Float, nan, neg, isNan}
 use Rattle.numeric.specs.Sine.{sine, cosine}
 use Rattle.numeric.specs.Logarithm.{binaryLogarithm, log10Of}
@@ -13,7 +13,7 @@ use Rattle.floats.specs.Ops.{_⊕_, _⊖_, +0, at}
 use Rattle.floats.specs.Literals.{literal, one, two, four, ten, thirty, thirtyOne}
 use Rattle.floats.specs.Rounding.{nintOf}
 use Rattle.maxgain.specs.Interpolation.{gainTerB}
-use Rattle.maxgain.specs.Maximum.{tuned}
+use Rattle.maxgain.specs.Maximum.{setMaxGain}
 use Rattle.curtain.specs.Answers.{curtainGain}
 use Rattle.answers.specs.Outcome.{accepted}
 use Rattle.antenna.specs.Literals.{floorRatio}
@@ -43,8 +43,9 @@ pub record StarredEdges : Type 0 where
   pub nint-minus-half : nintOf (literal 0xc0200000) ≡ negℤ (pos 3)
   -- `gainterb` at 30 gives entry 28 plus (entry 29 less entry 28)
   pub gainterb-30 : (gainab : List Float) → gainTerB gainab thirty ≡ at gainab 28 ⊕ (at gainab 29 ⊖ at gainab 28)
-  -- mode 1, 31 MHz, design 1: 10 and 10
-  pub mode-1 : tuned thirtyOne one ≡ record { foper = ten; fdesign = ten }
+  -- mode 1, 31 MHz, design 1: 10 and 10, in slots 4 and 7 of the answer
+  pub mode-1 : (parm gainmax gainmaxb : List Float) → length parm ≡ 20 → (giso : Float) (p : List Float)
+      → setMaxGain 1 parm gainmax gainmaxb thirtyOne one ≡ accepted (giso, p) → (at p 4 ≡ ten) × (at p 7 ≡ ten)
   -- the ratio 0.03162278 gives -30 before the maximum gain is added
   pub ratio : ratioLevel floorRatio ≡ neg thirty
   pub ratio-added : (giso : Float) → decibelsOf floorRatio one giso ≡ floored (neg thirty ⊕ giso)

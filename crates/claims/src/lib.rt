@@ -3,6 +3,14 @@
 // name in proofs/ has the theorem. They speak of the definitions that the calls' contracts cite, so
 // they hold of whatever the calls answer.
 //
+// Demand 1: `demand-1 : Demand1`, specs/Demand1.antt. Set-up accepts just when no limit is broken and
+// its search is sound; with the record and the table that it left, gain and row answer the source's
+// number with its kind, or 10 just where it isn't finite; the program's text is the first refusal's
+// line or 360 lines. A refusal leaves what was lent.
+//
+// The refusals: `refusals : Refusals`, specs/Refusals.antt. Each call refuses under a number just when
+// that is the lowest of its table (specs/Tables.antt) whose condition holds.
+//
 // Demand 3, the mirror law: `mirror-law : MirrorLaw`, specs/MirrorLaw.antt. An antenna that set-up
 // accepted, of types 1 to 4 with a slew that truncates to 0 or of types 5 and 6, answers at 360 - v
 // what it answers at v, for each whole azimuth but 90 and 270; a curtain whose rounded slew is -3

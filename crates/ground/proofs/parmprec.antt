@@ -1,2 +1,2 @@
 -- What `table_of`'s table holds.
-mod FlatTable
+pub mod FlatTable

@@ -1,1 +1,2 @@
--- By module. No crate above cites a law of this one: `logparm`'s contract says all that they use.
+-- By module, and what `antenna`'s laws cite.
+pub mod Laws

@@ -1,2 +1,2 @@
 -- What the loops over the active elements share.
-mod Listing
+pub mod Listing

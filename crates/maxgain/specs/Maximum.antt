@@ -1,6 +1,6 @@
 -- `setmaxgain` of the source, with document 01's refusals. Definitions only.
 use Prim.Native.Nat.{ℕ}
-use mathlib.Core.Bool.{cond}
+use mathlib.Core.Bool.{cond, not}
 use mathlib.Core.List.{List}
 use lib.ListN.{set}
 use lib.Dec.{ltb, eqb}
@@ -10,10 +10,12 @@ use Rattle.floats.specs.Ops.{_⊘_, at}
 use Rattle.floats.specs.Literals.{two, ten, thirty}
 use Rattle.floats.specs.Ranges.{between}
 use Rattle.model.specs.Types.{jantOf}
+use Rattle.answers.specs.Outcome.{Outcome, refused, accepted}
 use Rattle.answers.specs.Refusals.{LEVEL}
 use Rattle.maxgain.specs.Literals.{n0·7, n1·4}
 use Rattle.maxgain.specs.Refusals.{refusalOf}
 use Rattle.maxgain.specs.Interpolation.{gainTerB, gainTerp}
+use Rattle.maxgain.specs.declared.maximum.Answer.{Answer}
 use Rattle.maxgain.specs.declared.maximum.Answer.the-variants.{Gain, Refused}
 use Rattle.maxgain.specs.declared.maximum.Maximum.{Maximum}
 use Rattle.maxgain.specs.declared.maximum.Found.{Found}
@@ -59,16 +61,25 @@ found mode iant parm gainmax gainmaxb mhz design =
 
 -- ---- the answer
 
--- a refusal leaves the parameters as they were
-unfoldable pub refused : ℕ → List Float → Maximum
-refused number parm = record { answer = Refused number; parm = parm }
-
--- the gain isn't finite
-unfoldable pub graded : Found → List Float → Maximum
-graded f parm = cond (finite (f .gain)) (record { answer = Gain (f .gain); parm = f .parm }) (refused LEVEL parm)
+-- the gain with the parameters; a gain that isn't finite is refused
+unfoldable pub graded : Found → Outcome (Float × List Float)
+graded f = cond (not (finite (f .gain))) (refused LEVEL) (accepted (f .gain, f .parm))
 
 -- lowest number first
-unfoldable pub setMaxGain : ℕ → List Float → List Float → List Float → Float → Float → Maximum
+unfoldable pub setMaxGain : ℕ → List Float → List Float → List Float → Float → Float → Outcome (Float × List Float)
 setMaxGain mode parm gainmax gainmaxb mhz design =
     let number = refusalOf mode parm gainmax gainmaxb mhz design in
-    cond (ltb 0 number) (refused number parm) (graded (found mode (jantOf (at parm 1)) parm gainmax gainmaxb mhz design) parm)
+    cond (ltb 0 number) (refused number) (graded (found mode (jantOf (at parm 1)) parm gainmax gainmaxb mhz design))
+
+-- what each case of the answer says: a gain with the parameters beside it, or a refusal's number alone
+unfoldable pub maximumAnswer : Maximum → Outcome (Float × List Float)
+maximumAnswer m = said (m .answer) (m .parm)
+  where
+    said : Answer → List Float → Outcome (Float × List Float)
+    said (Gain g) parm = accepted (g, parm)
+    said (Refused n) parm = refused n
+
+-- the parameters beside the answer: the gain's own, or after a refusal those that were given
+unfoldable pub keptAfter : Outcome (Float × List Float) → List Float → List Float
+keptAfter (refused n) parm = parm
+keptAfter (accepted m) parm = m .1

@@ -8,7 +8,8 @@ ghost use mathlib.Core.Path.{_≡_};
 ghost use mathlib.Core.Bool.{true};
 ghost use Prim.Native.Nat.{_≤_};
 ghost use Rattle.model.specs.Limits.{inBand};
-ghost use Rattle.maxgain.specs.Maximum.{usable, designed, tuned, tunedSlots, byRatio, byMhz, asGiven, found, refused, graded, setMaxGain};
+ghost use Rattle.answers.specs.Outcome.{refused};
+ghost use Rattle.maxgain.specs.Maximum.{usable, designed, tuned, tunedSlots, byRatio, byMhz, asGiven, found, graded, setMaxGain, maximumAnswer, keptAfter};
 ghost use Rattle.maxgain.specs.Refusals.{bandOk};
 
 // A maximum gain in dBi, or the number of a refusal.
@@ -132,7 +133,8 @@ fn find(
 }
 
 fn refuse(number: u8, parm: [f32; 20]) -> Maximum
-    ensures { λ r. ⌜ r ≡ refused number parm ⌝ }
+    ensures { λ r. ⌜ maximumAnswer r ≡ refused number ⌝ }
+    ensures { λ r. ⌜ r .parm ≡ parm ⌝ }
 {
     Maximum {
         answer: Answer::Refused(number),
@@ -142,7 +144,8 @@ fn refuse(number: u8, parm: [f32; 20]) -> Maximum
 
 // What was found, or a refusal with the parameters as given.
 fn grade(f: Found, parm: [f32; 20]) -> Maximum
-    ensures { λ r. ⌜ r ≡ graded f parm ⌝ }
+    ensures { λ r. ⌜ maximumAnswer r ≡ graded f ⌝ }
+    ensures { λ r. ⌜ r .parm ≡ keptAfter (graded f) parm ⌝ }
 {
     let gain = f.gain;
     let p = f.parm;
@@ -167,7 +170,8 @@ pub fn setmaxgain(
     mhz: f32,
     design: f32,
 ) -> Maximum
-    ensures { λ r. ⌜ r ≡ setMaxGain mode parm gainmax gainmaxb mhz design ⌝ }
+    ensures { λ r. ⌜ maximumAnswer r ≡ setMaxGain mode parm gainmax gainmaxb mhz design ⌝ }
+    ensures { λ r. ⌜ r .parm ≡ keptAfter (setMaxGain mode parm gainmax gainmaxb mhz design) parm ⌝ }
 {
     let number = refusal(mode, parm, gainmax, gainmaxb, mhz, design);
     if 0 < number {

@@ -12,14 +12,14 @@ use Rattle.station.specs.Answers.{answer, readOf}
 use Rattle.station.specs.declared.Station.{Station}
 use Rattle.station.specs.declared.Reading.{Reading}
 use Rattle.station.specs.declared.Verdict.the-variants as verdict
-use Rattle.maxgain.specs.Maximum.{setMaxGain}
+use Rattle.maxgain.specs.Maximum.{setMaxGain, maximumAnswer}
 use Rattle.maxgain.specs.declared.maximum.Maximum.{Maximum}
 use Rattle.maxgain.specs.declared.maximum.Answer.the-variants as maximum
 use Rattle.antenna.specs.declared.record.Antenna.{Antenna}
 use Rattle.antenna.specs.declared.setup.SetUp.{SetUp}
 use Rattle.antenna.specs.declared.setup.Prepared.the-variants as setup
 use Rattle.antenna.specs.SetUp.{setUpOf, setUpAnswer, keptAfter, lentAfter}
-use Rattle.request.specs.Request.{andThen, readOutcome, stationIn, maximumOutcome, antennaOf, tunedOf, requestOf}
+use Rattle.request.specs.Request.{andThen, readOutcome, stationIn, antennaOf, tunedOf, requestOf}
 
 -- the first step's outcome decides
 then-refused : {A B : Type 0} (o : Outcome A) (next : A → Outcome B) (n : ℕ) → o ≡ refused n → andThen o next ≡ refused n
@@ -51,14 +51,14 @@ unfolding lentAfter keptAfter
 kept parm lent n e = ap (λ (o : Outcome (Antenna × ℕ)). keptAfter o lent) e
 
 -- the maximum gain
-module _ (s : Station) (mhz design elevation : Float) (size : ℕ) (m : Maximum) (answered : m ≡ setMaxGain (s .mode) (s .parm) (s .gainmax) (s .gainmaxb) mhz design) where
+module _ (s : Station) (mhz design elevation : Float) (size : ℕ) (m : Maximum) (answered : maximumAnswer m ≡ setMaxGain (s .mode) (s .parm) (s .gainmax) (s .gainmaxb) mhz design) where
   pub maximum-refused : (n : ℕ) → m .answer ≡ maximum.Refused n → tunedOf s mhz design elevation size ≡ refused n
-  unfolding tunedOf maximumOutcome
-  maximum-refused n told = then-refused _ _ n (rw (← answered, told))
+  unfolding tunedOf maximumAnswer
+  maximum-refused n told = then-refused _ _ n (sym answered ∙ rw told)
 
   pub maximum-found : (giso : Float) → m .answer ≡ maximum.Gain giso → tunedOf s mhz design elevation size ≡ antennaOf (m .parm) giso elevation size
-  unfolding tunedOf maximumOutcome
-  maximum-found giso told = then-accepted _ _ (giso, m .parm) (rw (← answered, told))
+  unfolding tunedOf maximumAnswer
+  maximum-found giso told = then-accepted _ _ (giso, m .parm) (sym answered ∙ rw told)
 
 -- the reader
 module _ (input : List ℕ) (size : ℕ) where

@@ -11,9 +11,6 @@ use Rattle.words.specs.Floats.{floatAt}
 use Rattle.station.specs.Answers as station
 use Rattle.station.specs.declared.Station.{Station}
 use Rattle.maxgain.specs.Maximum.{setMaxGain}
-use Rattle.maxgain.specs.declared.maximum.Maximum.{Maximum}
-use Rattle.maxgain.specs.declared.maximum.Answer as maxgain
-use Rattle.maxgain.specs.declared.maximum.Answer.the-variants as maximum
 use Rattle.antenna.specs.declared.record.Antenna.{Antenna}
 use Rattle.antenna.specs.SetUp.{setUpOf, lentAfter}
 use Rattle.request.specs.declared.Answer.{Answer}
@@ -35,14 +32,6 @@ readOutcome (station.accepted s) = accepted s
 unfoldable pub stationIn : List ℕ → Outcome Station
 stationIn input = cond (not (eqb (length input) 237)) (refused RECORD) (readOutcome (station.readOf (take 225 input)))
 
--- the maximum gain with the parameters that `setmaxgain` leaves
-unfoldable pub maximumOutcome : Maximum → Outcome (Float × List Float)
-maximumOutcome m = said (m .answer) (m .parm)
-  where
-    said : maxgain.Answer → List Float → Outcome (Float × List Float)
-    said (maximum.Refused number) parm = refused number
-    said (maximum.Gain giso) parm = accepted (giso, parm)
-
 -- set-up of the parameters, with n floats lent for the table
 unfoldable pub antennaOf : List Float → Float → Float → ℕ → Outcome Request
 antennaOf parm giso elevation n =
@@ -51,7 +40,7 @@ antennaOf parm giso elevation n =
 -- `setmaxgain` of the station, then set-up
 unfoldable pub tunedOf : Station → Float → Float → Float → ℕ → Outcome Request
 tunedOf s mhz design elevation n =
-    andThen (maximumOutcome (setMaxGain (s .mode) (s .parm) (s .gainmax) (s .gainmaxb) mhz design)) λ (m : Float × List Float). antennaOf (m .1) (m .0) elevation n
+    andThen (setMaxGain (s .mode) (s .parm) (s .gainmax) (s .gainmaxb) mhz design) λ (m : Float × List Float). antennaOf (m .1) (m .0) elevation n
 
 -- the reader, then these: behind the record stand MHz, design MHz and elevation
 unfoldable pub requestOf : List ℕ → ℕ → Outcome Request

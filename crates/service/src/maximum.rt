@@ -10,13 +10,14 @@ use maxgain::maximum::setmaxgain;
 use numeric::bits::bits_of;
 ghost use mathlib.Core.Path.{_≡_};
 ghost use lib.ListN.{length};
+ghost use Rattle.maxgain.specs.Maximum.{maximumAnswer};
 ghost use Rattle.service.specs.Lists.{left};
 ghost use Rattle.service.specs.Maximum.{maximumWords, maxgainCall};
 
 // The answer in the lent words; a refusal leaves them as they were.
 fn put_maximum(m: Maximum, out: &mut [u32]) -> u32
     requires { ⌜ length (now out) ≡ 21 ⌝ }
-    ensures { λ r. ⌜ left r (now (out .exit)) ≡ maximumWords (m .answer) (m .parm) (now (out .entry)) ⌝ }
+    ensures { λ r. ⌜ left r (now (out .exit)) ≡ maximumWords (maximumAnswer m) (now (out .entry)) ⌝ }
 {
     let answer = m.answer;
     let parm = m.parm;

@@ -25,7 +25,7 @@ use Rattle.model.specs.Limits.{slot}
 use Rattle.antenna.specs.Limits.{bandOk, nelOf, slotsOk, aimOk, startOf, refusalOf}
 use Rattle.antenna.specs.TypeConstants.{number, given, constantsWith, arrayOwn, boomOwn, rhombicOwn, crossedOwn, ownOf, constantsOf}
 use Rattle.antenna.specs.Search.{gainormOf}
-use Rattle.antenna.specs.SetUp.{modelOf, searchRefused, acceptedOf, found, searched, setUpOf, keptAfter, lentAfter}
+use Rattle.antenna.specs.SetUp.{modelOf, searchRefused, acceptedOf, found, searched, setUpOf, noAntenna, besideOf, keptAfter, lentAfter}
 use Rattle.antenna.specs.declared.search.Search.{Search}
 
 -- the two counts of the constants
@@ -33,15 +33,15 @@ abbrev CountsIn : Constants → Type 0
 CountsIn k = (countOk (k .r2) && countOk (k .r3)) ≡ true
 
 module _ (iant : ℕ) (p : List Float) where
-  pub accepted-limits : (n : ℕ) → refusalOf iant p n ≡ 0 → (slotsOk iant p ≡ true) × (tableSize ≤ n)
+  pub accepted-limits : (n : ℕ) → refusalOf iant p n ≡ 0 → (slotsOk iant p ≡ true) × (tableSize ≤ n) × (typeOk iant ≡ true)
   unfolding refusalOf
   accepted-limits n h =
       let h3 = next (not (allFinite p)) _ _ h .1 in
-      let h5 = next (not (typeOk iant)) _ _ h3 .1 in
-      let h6 = next (not (bandOk iant p)) _ _ h5 .1 in
+      let t = next (not (typeOk iant)) _ _ h3 in
+      let h6 = next (not (bandOk iant p)) _ _ (t .1) .1 in
       let s = next (not (slotsOk iant p)) _ _ h6 in
       let h8 = next (not (aimOk iant p)) _ _ (s .1) .1 in
-      (not-false (slotsOk iant p) (s .0), ltb-false n tableSize (next (ltb n tableSize) _ _ h8 .0))
+      (not-false (slotsOk iant p) (s .0), ltb-false n tableSize (next (ltb n tableSize) _ _ h8 .0), not-false (typeOk iant) (t .0))
 
   pub nel-bounds : logPeriodic iant ≡ true → slotsOk iant p ≡ true → (2 ≤ nelOf p) × (nelOf p ≤ 30)
   unfolding slotsOk
@@ -75,6 +75,11 @@ counts-made m l k = simp (le-leb (m .elements .nat) 30 (l .few), l .named, k)
 pub refused-lent : (p lent : List Float) (n : ℕ) → setUpOf p (length lent) ≡ refused n → lent ≡ lentAfter p lent
 unfolding lentAfter keptAfter
 refused-lent p lent n h = rw h
+
+-- the antenna beside it
+pub beside-refusal : (p lent : List Float) (n : ℕ) → setUpOf p (length lent) ≡ refused n → noAntenna ≡ besideOf (setUpOf p (length lent))
+unfolding besideOf
+beside-refusal p lent n h = rw h
 
 pub accepted-lent : (p lent t : List Float) (m : Model) (s : Search) → t ≡ tableOf m → setUpOf p (length lent) ≡ acceptedOf m s
     → laid lent 0 t ≡ lentAfter p lent

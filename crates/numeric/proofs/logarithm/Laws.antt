@@ -18,7 +18,7 @@ use lib.Ieee.Fits.{down-pos}
 use lib.Ieee.Positive.{num, den, den-pos, positive}
 use lib.Ieee.Nearest.{div-mono}
 use Rattle.numeric.specs.Logarithm as Logarithm
-use Rattle.numeric.specs.Logarithm.{digits, normal, exponent, significand, binaryLogarithm, room, Bounded, logarithmTimes}
+use Rattle.numeric.specs.Logarithm.{digits, normal, exponent, significand, binaryLogarithm, PowerAtMost, PowerAbove, logarithmTimes}
 use Rattle.numeric.specs.Rounding.{F, steps}
 use Rattle.numeric.proofs.logarithm.Digits.{digits-lt, digits-mono, thirty, mul-pow, pow-mul}
 use Rattle.numeric.proofs.Integers.{mag-sub, mag-mul, mag-add, mag-floor, sub-power, sub-mul, sub-add, sub-mono}
@@ -125,7 +125,8 @@ value-power u n a c e =
     ∙ mul-assoc (a ^ u) (2 ^ (149 * u)) (2 ^ u)
     ∙ ap (λ (i : ℕ). a ^ u * i) (sym (pow-add 2 (149 * u) u) ∙ ap (λ (i : ℕ). 2 ^ i) f)
 
-pub logarithm-bounds : (x : Float) → T (fits binary32 x) → T (normal x) → (u : ℕ) → u ≡ 2 ^ 30 → Bounded x u
+pub logarithm-bounds : (x : Float) → T (fits binary32 x) → T (normal x) → (u : ℕ) → u ≡ 2 ^ 30
+    → PowerAtMost (binaryLogarithm x) x u × PowerAbove (binaryLogarithm x +ℤ pos 4) x u
 logarithm-bounds x f t u e =
     let p = parts x f t in
     let n = steps x in
@@ -136,13 +137,13 @@ logarithm-bounds x f t u e =
     let s = significand-is x p in
     let b = thirty u e (p .M * 2 ^ 7) (rw e (omega (arith, p .from))) (rw e (omega (arith, p .below))) in
     let L : binaryLogarithm x ≡ subℕ A (150 * u) = L-is u e x ∙ ap (λ (z : ℕ). subℕ (z * u + d) (150 * u)) (p .count) in
-    let L4 : binaryLogarithm x +ℤ pos room ≡ subℕ (A + room) (150 * u) = ap (λ (z : ℤ). z +ℤ pos room) L ∙ sub-add A (150 * u) room in
+    let L4 : binaryLogarithm x +ℤ pos 4 ≡ subℕ (A + 4) (150 * u) = ap (λ (z : ℤ). z +ℤ pos 4) L ∙ sub-add A (150 * u) 4 in
     let v = value-power u n (num x) (den x) (p .value) in
     let lo : 2 ^ (A + 0) ≤ N = at-least u e n (p .M) (p .k) d (p .whole) (subst (λ (i : ℕ). 2 ^ (digits 30 i + 0) * u ^ u ≤ (p .M * 2 ^ 7) ^ u) (sym s) (rw add-zero (b .0))) in
     let hi : N < 2 ^ (A + 3) = less-than u e n (p .M) (p .k) d (p .whole) (subst (λ (i : ℕ). (p .M * 2 ^ 7) ^ u < 2 ^ (digits 30 i + 3) * u ^ u) (sym s) (b .1)) in
-    let enough : A + 3 ≤ A + room = omega arith in (
+    let enough : A + 3 ≤ A + 4 = omega arith in (
       rw L (from-below (num x ^ u) (den x ^ u) N B (2 ^ A) (up (subℕ A (150 * u))) (down (subℕ A (150 * u))) (pow-pos (150 * u)) v (sub-power A (150 * u)) (rw add-zero at lo)),
-      rw L4 (from-above (num x ^ u) (den x ^ u) N B (2 ^ (A + room)) (up (subℕ (A + room) (150 * u))) (down (subℕ (A + room) (150 * u))) (mul-pos (down-pos (subℕ (A + room) (150 * u))) (one-le-pow u (den x) (den-pos x))) v (sub-power (A + room) (150 * u)) (lt-of-lt-of-le hi (pow-mono enough))),
+      rw L4 (from-above (num x ^ u) (den x ^ u) N B (2 ^ (A + 4)) (up (subℕ (A + 4) (150 * u))) (down (subℕ (A + 4) (150 * u))) (mul-pos (down-pos (subℕ (A + 4) (150 * u))) (one-le-pow u (den x) (den-pos x))) v (sub-power (A + 4) (150 * u)) (lt-of-lt-of-le hi (pow-mono enough))),
     )
 
 -- ---- L is a number of 39 binary digits and a sign

@@ -32,7 +32,7 @@ returns c =
     let lent = a .table .now in
     let said = set-up-said (a .parm) (a .giso) (a .elevation) (length lent) (set .antinit2 .result) (set .antinit2 .ensures .0) n (told .1) in
     rw (set-up-refused (a .parm) (a .giso) (a .elevation) (length lent) (set .antinit2 .result) (set .antinit2 .ensures .0) n (told .1))
-    (c .refuse .ensures, set .antinit2 .ensures .1 ∙ kept (a .parm) lent n said)
+    (c .refuse .ensures, set .antinit2 .ensures .1 .0 ∙ kept (a .parm) lent n said)
 
 same-length-2 : tie.Need-same-length-2
 same-length-2 c = search needs
@@ -44,7 +44,7 @@ returns-2 c =
     let set = c .before .before .before .before .before in
     let a = set .before .before .before .args in
     rw (set-up-ready (a .parm) (a .giso) (a .elevation) (length (a .table .now)) (set .antinit2 .result) (set .antinit2 .ensures .0) (told .0 .0) (told .1))
-    (refl, set .antinit2 .ensures .1)
+    (refl, set .antinit2 .ensures .1 .0)
 
 pub set-up-spec : {M : Type 1} → statement M
 set-up-spec =

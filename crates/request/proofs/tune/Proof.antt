@@ -28,7 +28,7 @@ returns c =
     let told = c .before .before .answer .given in
     let found = c .before .before .before .before .before in
     let a = found .before .before .before .before .before .args in
-    rw (maximum-refused (a .s) (a .mhz) (a .design) (a .elevation) (length (a .table .now)) (found .setmaxgain .result) (found .setmaxgain .ensures) (told .0 .0) (told .1)) (c .refuse .ensures, refl)
+    rw (maximum-refused (a .s) (a .mhz) (a .design) (a .elevation) (length (a .table .now)) (found .setmaxgain .result) (found .setmaxgain .ensures .0) (told .0 .0) (told .1)) (c .refuse .ensures, refl)
 
 same-length : tie.Need-same-length
 same-length c = search needs
@@ -38,7 +38,7 @@ returns-2 c =
     let told = c .before .before .before .before .before .answer2 .given in
     let found = c .before .before .before .before .before .before .before .before in
     let a = found .before .before .before .before .before .args in
-    rw (maximum-found (a .s) (a .mhz) (a .design) (a .elevation) (length (a .table .now)) (found .setmaxgain .result) (found .setmaxgain .ensures) (told .0 .0) (told .1)) (c .before .before .set-up .ensures)
+    rw (maximum-found (a .s) (a .mhz) (a .design) (a .elevation) (length (a .table .now)) (found .setmaxgain .result) (found .setmaxgain .ensures .0) (told .0 .0) (told .1)) (c .before .before .set-up .ensures)
 
 pub tune-spec : {M : Type 1} → statement M
 tune-spec =

@@ -1,6 +1,7 @@
 -- `antenna::search::azmax` meets its contract.
+use mathlib.Core.Path.{refl}
 use native.Mathlib.Omega.{arith}
-use Rattle.antenna.specs.Search.{azmaxOf, passFrom}
+use Rattle.antenna.specs.Search.{azmaxOf}
 use borrow.Author.Needs.{needs}
 use Rattle.antenna.proofs.search.azmax.Statement.{statement}
 use Rattle.antenna.proofs.search.azmax.Tie as tie
@@ -8,21 +9,15 @@ use Rattle.antenna.proofs.search.azmax.Tie as tie
 turns-in-requires : tie.Need-turns-in-requires
 turns-in-requires c κs = search needs
 
-pass-from-requires : tie.Need-pass-from-requires
-pass-from-requires c κs = search needs
-
-azimuth-pass-requires : tie.Need-azimuth-pass-requires
-unfolding passFrom
-azimuth-pass-requires c κs = (c .before .before .before .pre .0, c .before .before .before .pre .1, rw (c .pass-from .ensures) (c .before .before .before .pre .2), rw (c .pass-from .ensures), c .before .turns-in .ensures .1)
+azmax-turns-requires : tie.Need-azmax-turns-requires
+azmax-turns-requires c κs = let p = c .before .before .pre in (p .0, p .1, p .2, refl, c .turns-in .ensures .1)
 
 returns : tie.Need-returns
-unfolding azmaxOf passFrom
+unfolding azmaxOf
 returns c =
-    let n = c .before .before .turns-in in (
-      simp (c .azimuth-pass .ensures .0, c .before .pass-from .ensures, n .ensures .0),
-      rw (c .azimuth-pass .ensures .1, c .before .pass-from .ensures) (omega (arith, n .ensures .1)),
-    )
+    let n = c .before .turns-in .ensures in
+    let r = c .azmax-turns .ensures in
+    (rw (r .0, n .0), rw (r .1) (omega (arith, n .1)))
 
 pub azmax-spec : {M : Type 1} → statement M
-azmax-spec =
-    tie.close (tie.spec turns-in-requires pass-from-requires azimuth-pass-requires returns)
+azmax-spec = tie.close (tie.spec turns-in-requires azmax-turns-requires returns)

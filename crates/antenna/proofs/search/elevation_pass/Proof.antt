@@ -3,20 +3,19 @@ use mathlib.Core.Path.{_≡_, refl}
 use Prim.Native.Nat.{_+_, _≤_, _-_}
 use native.Mathlib.Omega.{arith}
 use native.Mathlib.Numerals.{add-one}
-use borrow.Author.Needs.{needs}
-use Rattle.antenna.specs.Search.{met, elevationStep, elevationTo}
-use Rattle.antenna.proofs.search.Readings.{noted-counts}
+use Rattle.antenna.specs.Search.{tallied, elevationRead, elevationsTo}
 use Rattle.antenna.proofs.search.elevation_pass.Statement.{statement}
 use Rattle.antenna.proofs.search.elevation_pass.Tie as tie
 
 abbrev Inv-loop : tie.InvT-loop
-Inv-loop m table out₀ iu₀ out iu = (out ≡ elevationTo m table out₀ iu) × (out .readings ≡ out₀ .readings + iu) × (iu ≤ 90)
+Inv-loop m table v out₀ iu₀ out iu =
+    (out ≡ elevationsTo m table v out₀ iu) × (out .tally .readings ≡ out₀ .tally .readings + iu) × (iu ≤ 90)
 
 abbrev μ-loop : tie.MeasureT-loop
-μ-loop m table out₀ iu₀ out iu = 90 - iu
+μ-loop m table v out₀ iu₀ out iu = 90 - iu
 
 loop-holds : tie.Need-loop-holds Inv-loop μ-loop
-unfolding elevationTo
+unfolding elevationsTo
 loop-holds c = (refl, omega arith, omega arith)
 
 add-iu : tie.Need-add-iu Inv-loop μ-loop
@@ -28,22 +27,19 @@ int-to-float-u c = omega arith
 gainrel-requires : tie.Need-gainrel-requires Inv-loop μ-loop
 gainrel-requires c κs = (c .before .before .before .before .pre .0, c .before .before .before .before .pre .1)
 
-elevation-best-requires : tie.Need-elevation-best-requires Inv-loop μ-loop
-elevation-best-requires c κs = search needs
-
-note-requires : tie.Need-note-requires Inv-loop μ-loop
-note-requires c κs = omega arith
+elevation-read-requires : tie.Need-elevation-read-requires Inv-loop μ-loop
+elevation-read-requires c κs = omega arith
 
 loop-less : tie.Need-loop-less Inv-loop μ-loop
 loop-less c = omega arith
 
 loop-again : tie.Need-loop-again Inv-loop μ-loop
-unfolding elevationTo elevationStep met
+unfolding elevationsTo elevationRead tallied
 loop-again c =
-    let e = c .note .ensures in
-    let inv = c .before .before .before .before .before .loop .inv in (
-      rw (e, c .before .elevation-best .ensures, c .before .before .gainrel .ensures, inv .0, add-one),
-      rw (e, noted-counts) (omega arith),
+    let e = c .elevation-read .ensures in
+    let inv = c .before .before .before .before .loop .inv in (
+      rw (e, c .before .gainrel .ensures, inv .0, add-one),
+      rw e (omega arith),
       omega arith,
     )
 
@@ -60,8 +56,7 @@ elevation-pass-spec =
     add-iu
     int-to-float-u
     gainrel-requires
-    elevation-best-requires
-    note-requires
+    elevation-read-requires
     loop-less
     loop-again
     returns)

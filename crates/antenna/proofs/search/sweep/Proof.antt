@@ -1,32 +1,38 @@
 -- `antenna::search::sweep` meets its contract.
-use mathlib.Core.Path.{_≡_, refl}
-use Prim.Native.Nat.{_≤_, _-_}
+use mathlib.Core.Path.{_≡_, refl, ap}
+use Prim.Native.Nat.{_+_, _≤_, _-_}
 use native.Mathlib.Omega.{arith}
 use native.Mathlib.Numerals.{add-one}
 use borrow.Author.Needs.{needs}
-use Rattle.antenna.specs.Search.{met, steps, sweepStep}
-use Rattle.antenna.proofs.search.Readings.{noted-counts}
+use Rattle.antenna.specs.Search.{untold, tallied, turns, sweepRead, sweepTurn, sweepOf}
+use Rattle.antenna.specs.declared.search.Tally.{Tally}
 use Rattle.antenna.proofs.search.sweep.Statement.{statement}
 use Rattle.antenna.proofs.search.sweep.Tie as tie
 
 abbrev Inv-loop : tie.InvT-loop
-Inv-loop m table u out₀ i₀ out i = (out ≡ steps (sweepStep m table u) out₀ i) × (out .readings ≡ i) × (i ≤ 19)
+Inv-loop m table u vmax out₀ i₀ out i =
+    (out ≡ turns (sweepTurn m table u) out₀ i) × (out .tally .readings ≡ out₀ .tally .readings + i) × (i ≤ 19)
 
 abbrev μ-loop : tie.MeasureT-loop
-μ-loop m table u out₀ i₀ out i = 19 - i
+μ-loop m table u vmax out₀ i₀ out i = 19 - i
+
+-- no reading before the first
+none : (c : tie.After-no-tally Inv-loop μ-loop) → c .no-tally .result .readings ≡ 0
+unfolding untold
+none c = ap (λ (t : Tally). t .readings) (c .no-tally .ensures)
+
+no-tally-requires : tie.Need-no-tally-requires Inv-loop μ-loop
+no-tally-requires c κs = search needs
 
 loop-holds : tie.Need-loop-holds Inv-loop μ-loop
-unfolding steps
-loop-holds c = (refl, c .before .pre .2, omega arith)
+unfolding turns
+loop-holds c = (refl, omega arith, omega arith)
 
 gainrel-requires : tie.Need-gainrel-requires Inv-loop μ-loop
-gainrel-requires c κs = (c .before .before .before .pre .0, c .before .before .before .pre .1)
+gainrel-requires c κs = search needs
 
-sweep-best-requires : tie.Need-sweep-best-requires Inv-loop μ-loop
-sweep-best-requires c κs = search needs
-
-note-requires : tie.Need-note-requires Inv-loop μ-loop
-note-requires c κs = omega arith
+sweep-read-requires : tie.Need-sweep-read-requires Inv-loop μ-loop
+sweep-read-requires c κs = omega (arith, none (c .before .before .before))
 
 add-i : tie.Need-add-i Inv-loop μ-loop
 add-i c = omega arith
@@ -35,17 +41,19 @@ loop-less : tie.Need-loop-less Inv-loop μ-loop
 loop-less c = omega arith
 
 loop-again : tie.Need-loop-again Inv-loop μ-loop
-unfolding steps sweepStep met
+unfolding turns sweepTurn sweepRead tallied
 loop-again c =
-    let e = c .note .ensures in
-    let inv = c .before .before .before .before .loop .inv in (
-      rw (add-one, e, c .before .sweep-best .ensures, c .before .before .gainrel .ensures, inv .0),
-      rw (e, noted-counts, inv .1),
+    let e = c .sweep-read .ensures in (
+      rw (add-one, e, c .before .gainrel .ensures, c .before .before .before .loop .inv .0),
+      rw e (omega arith),
       omega arith,
     )
 
 returns : tie.Need-returns Inv-loop μ-loop
-returns c = let e : c .before .loop .i ≡ 19 = omega arith in (rw e at (c .before .loop .inv .0), rw e at (c .before .loop .inv .1))
+unfolding sweepOf
+returns c =
+    let e : c .before .loop .i ≡ 19 = omega arith in
+    (rw (e, c .before .before .no-tally .ensures) at (c .before .loop .inv .0), omega (arith, none (c .before .before)))
 
 pub sweep-spec : {M : Type 1} → statement M
 sweep-spec =
@@ -53,10 +61,10 @@ sweep-spec =
     (tie.spec
     Inv-loop
     μ-loop
+    no-tally-requires
     loop-holds
     gainrel-requires
-    sweep-best-requires
-    note-requires
+    sweep-read-requires
     add-i
     loop-less
     loop-again

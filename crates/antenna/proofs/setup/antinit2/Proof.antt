@@ -1,11 +1,12 @@
 -- `antenna::setup::antinit2` meets its contract.
 use borrow.Author.Needs.{needs}
 use denote.Ref.{now}
-use mathlib.Core.Path.{_≡_, sym, _∙_}
+use mathlib.Core.Path.{_≡_, sym, ap, _∙_}
 use native.Mathlib.Omega.{arith}
 use lib.ListN.{length}
 use Rattle.answers.specs.Refusals.{PATTERN}
-use Rattle.antenna.proofs.setup.Accepted.{accepted-limits, refused-lent, accepted-lent, set-up-refused, set-up-found, found-refused, found-accepted}
+use Rattle.antenna.specs.SetUp.{besideOf}
+use Rattle.antenna.proofs.setup.Accepted.{accepted-limits, refused-lent, beside-refusal, accepted-lent, set-up-refused, set-up-found, found-refused, found-accepted}
 use Rattle.antenna.proofs.setup.antinit2.Statement.{statement}
 use Rattle.antenna.proofs.setup.antinit2.Tie as tie
 
@@ -27,7 +28,7 @@ returns c =
     let p = asked .before .before .before .before .args .t1 in
     let lent = now (asked .before .before .before .before .args .lent) in
     let r = set-up-refused p (length lent) _ _ (asked .before .before .jant .ensures) (asked .before .refusal .ensures) (asked .if1 .taken) in
-    (c .refuse .ensures ∙ sym r, refused-lent p lent _ r)
+    (c .refuse .ensures .0 ∙ sym r, (refused-lent p lent _ r, c .refuse .ensures .1 ∙ beside-refusal p lent _ r))
 
 model-of-requires : tie.Need-model-of-requires
 model-of-requires c κs =
@@ -63,7 +64,7 @@ returns-2 c =
     _ (search .gainorm .result) (asked .if1 .left) (search .before .before .before .before .model-of .ensures .0)
     (rw (search .gainorm .ensures, search .before .before .before .table-of .ensures, search .before .start-of .ensures)) in
     let r = s ∙ found-refused _ _ _ (c .before .before .search-refused .ensures) (c .before .if2 .taken) in
-    (c .refuse2 .ensures ∙ sym r, refused-lent p lent PATTERN r)
+    (c .refuse2 .ensures .0 ∙ sym r, (refused-lent p lent PATTERN r, c .refuse2 .ensures .1 ∙ beside-refusal p lent PATTERN r))
 
 slice-aggregate-lay-over : tie.Need-slice-aggregate-lay-over
 slice-aggregate-lay-over c = search needs
@@ -92,7 +93,7 @@ returns-3 c =
     _ (search .gainorm .result) (asked .if1 .left) (search .before .before .before .before .model-of .ensures .0)
     (rw (search .gainorm .ensures, search .before .before .before .table-of .ensures, search .before .start-of .ensures)) in
     let r = s ∙ found-accepted _ _ _ (c .before .before .before .before .before .before .before .search-refused .ensures) (c .before .before .before .before .before .before .if2 .left) in
-    (c .accept .ensures ∙ sym r, c .before .before .before .lay-over .ensures ∙ accepted-lent p lent _ _ _ (search .before .before .before .table-of .ensures) r)
+    (c .accept .ensures .0 ∙ sym r, (c .before .before .before .lay-over .ensures ∙ accepted-lent p lent _ _ _ (search .before .before .before .table-of .ensures) r, c .accept .ensures .1 ∙ sym (ap besideOf r)))
 
 pub antinit2-spec : {M : Type 1} → statement M
 antinit2-spec =

@@ -10,7 +10,7 @@ no-antenna-requires c κs = search needs
 
 returns : tie.Need-returns
 unfolding setUpAnswer
-returns c = refl
+returns c = (refl, c .no-antenna .ensures)
 
 pub refuse-spec : {M : Type 1} → statement M
 refuse-spec = tie.close (tie.spec no-antenna-requires returns)

@@ -1,5 +1,6 @@
 -- `maxgain::maximum::grade` meets its contract.
-use Rattle.maxgain.specs.Maximum.{graded}
+use mathlib.Core.Path.{_∙_}
+use Rattle.maxgain.specs.Maximum.{graded, maximumAnswer, keptAfter}
 use borrow.Author.Needs.{needs}
 use Rattle.maxgain.proofs.maximum.grade.Statement.{statement}
 use Rattle.maxgain.proofs.maximum.grade.Tie as tie
@@ -11,12 +12,15 @@ refuse-requires : tie.Need-refuse-requires
 refuse-requires c κs = search needs
 
 returns : tie.Need-returns
-unfolding graded
-returns c = simp (c .if1 .taken, ← c .before .is-finite .ensures)
+unfolding graded maximumAnswer keptAfter
+returns c = (simp (← c .before .is-finite .ensures, c .if1 .taken), simp (← c .before .is-finite .ensures, c .if1 .taken))
 
 returns-2 : tie.Need-returns-2
-unfolding graded
-returns-2 c = simp (← c .refuse .ensures, c .before .if1 .left, ← c .before .before .is-finite .ensures)
+unfolding graded keptAfter
+returns-2 c =
+    let finite = c .before .before .is-finite .ensures in
+    let left = c .before .if1 .left in
+    (c .refuse .ensures .0 ∙ simp (← finite, left), c .refuse .ensures .1 ∙ simp (← finite, left))
 
 pub grade-spec : {M : Type 1} → statement M
 grade-spec = tie.close (tie.spec is-finite-requires refuse-requires returns returns-2)

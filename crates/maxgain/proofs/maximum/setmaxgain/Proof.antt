@@ -2,7 +2,7 @@
 use mathlib.Core.Path.{_≡_, sym, _∙_}
 use native.Mathlib.Omega.{arith}
 use borrow.Author.Tests.{lt-ltb, le-ltb}
-use Rattle.maxgain.specs.Maximum.{setMaxGain}
+use Rattle.maxgain.specs.Maximum.{setMaxGain, keptAfter}
 use Rattle.maxgain.proofs.Refusals.{met}
 use borrow.Author.Needs.{needs}
 use Rattle.maxgain.proofs.maximum.setmaxgain.Statement.{statement}
@@ -15,8 +15,11 @@ refuse-requires : tie.Need-refuse-requires
 refuse-requires c κs = search needs
 
 returns : tie.Need-returns
-unfolding setMaxGain
-returns c = simp (← c .refuse .ensures, lt-ltb _ _ (c .before .if1 .taken), ← c .before .before .refusal .ensures)
+unfolding setMaxGain keptAfter
+returns c =
+    let given = lt-ltb _ _ (c .before .if1 .taken) in
+    let number = c .before .before .refusal .ensures in
+    (c .refuse .ensures .0 ∙ simp (← number, given), c .refuse .ensures .1 ∙ simp (← number, given))
 
 array-read-jant : tie.Need-array-read-jant
 array-read-jant c = search needs
@@ -34,7 +37,12 @@ grade-requires c κs = search needs
 
 returns-2 : tie.Need-returns-2
 unfolding setMaxGain
-returns-2 c = simp (← c .grade .ensures, ← c .before .find .ensures, ← c .before .before .jant .ensures, le-ltb _ _ (c .before .before .before .if1 .left), ← c .before .before .before .before .refusal .ensures)
+returns-2 c =
+    let none = le-ltb _ _ (c .before .before .before .if1 .left) in
+    let number = c .before .before .before .before .refusal .ensures in
+    let found = c .before .find .ensures in
+    let type = c .before .before .jant .ensures in
+    (c .grade .ensures .0 ∙ simp (← found, ← type, ← number, none), c .grade .ensures .1 ∙ simp (← found, ← type, ← number, none))
 
 pub setmaxgain-spec : {M : Type 1} → statement M
 setmaxgain-spec =

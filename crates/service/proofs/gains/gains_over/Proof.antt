@@ -64,7 +64,7 @@ returns-2 c =
     let readings = search .before .before .before .answer2 .given .0 .0 in
     let t = s .antinit2 .last .1 .0 in
     let n = gains-length ant t (a .giso) (a .directions .now) (length (a .directions .now) / 2) in
-    rw (gains .put-gains .ensures, search .put-search .ensures, sym (s .antinit2 .ensures .0) ∙ ready (s .antinit2 .result) readings (search .before .before .before .answer2 .given .1), ← s .antinit2 .ensures .1)
+    rw (gains .put-gains .ensures, search .put-search .ensures, sym (s .antinit2 .ensures .0) ∙ ready (s .antinit2 .result) readings (search .before .before .before .answer2 .given .1), ← s .antinit2 .ensures .1 .0)
     (ap (left 0) (filled (a .out .now) (searchWords readings (ant .peak)) (gainsTo ant t (a .giso) (a .directions .now) (length (a .directions .now) / 2)) (four-words readings (ant .peak)) (omega (arith, n, start .pre))))
 
 pub gains-over-spec : {M : Type 1} → statement M

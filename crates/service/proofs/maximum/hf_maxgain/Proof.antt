@@ -48,7 +48,7 @@ returns-3 c =
     let gains = set .before .before .before .before in
     let parm = gains .before .before in
     c .before .before .put-maximum .ensures
-    ∙ rw (eq-eqb _ _ (parm .before .before .if1 .left), eq-eqb _ _ (parm .before .if2 .left), set .setmaxgain .ensures, set .before .mode-of .ensures, gains .gainmaxb-at .ensures, gains .before .gainmax-at .ensures, parm .parm-at .ensures)
+    ∙ rw (eq-eqb _ _ (parm .before .before .if1 .left), eq-eqb _ _ (parm .before .if2 .left), set .setmaxgain .ensures .0, set .before .mode-of .ensures, gains .gainmaxb-at .ensures, gains .before .gainmax-at .ensures, parm .parm-at .ensures)
 
 pub hf-maxgain-spec : {M : Type 1} → statement M
 hf-maxgain-spec =

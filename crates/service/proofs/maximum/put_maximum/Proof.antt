@@ -6,6 +6,7 @@ use borrow.Author.Needs.{needs}
 use lib.ListN.{length, set, length-set, length-map}
 use lib.Ieee.{binary32, toBits}
 use Rattle.service.specs.Lists.{bits}
+use Rattle.maxgain.specs.Maximum.{maximumAnswer}
 use Rattle.service.specs.Maximum.{maximumWords}
 use Rattle.words.proofs.Laid.{laid-first}
 use Rattle.service.proofs.maximum.put_maximum.Statement.{statement}
@@ -37,7 +38,7 @@ put-bits-requires c κs =
     rw length-set (omega (arith, twenty (c .before .before .before .before .before .before .before .before)))
 
 returns : tie.Need-returns
-unfolding maximumWords
+unfolding maximumWords maximumAnswer
 returns c = rw (c .before .answer .given .1)
 
 same-length : tie.Need-same-length
@@ -49,7 +50,7 @@ same-length c =
     k ∙ length-set (a .out .now) 0 w
 
 returns-2 : tie.Need-returns-2
-unfolding maximumWords
+unfolding maximumWords maximumAnswer
 returns-2 c =
     let put = c .before .before in
     let found = put .before .before .before in

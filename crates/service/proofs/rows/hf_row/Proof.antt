@@ -51,7 +51,7 @@ returns-3 c =
     let p = s .before .before in
     let parm = p .before .before .before .before .before .before .before .args .parm .now in
     let e : p .parm-at .result ≡ parm = p .parm-at .ensures ∙ take-all 20 parm (omega arith) in
-    rw (eq-eqb _ _ (p .before .before .if1 .left), eq-eqb _ _ (p .before .if2 .left), ← e, s .antinit2 .ensures .1, sym (s .antinit2 .ensures .0) ∙ turned-away (s .antinit2 .result) (c .before .answer .given .0 .0) (c .before .answer .given .1))
+    rw (eq-eqb _ _ (p .before .before .if1 .left), eq-eqb _ _ (p .before .if2 .left), ← e, s .antinit2 .ensures .1 .0, sym (s .antinit2 .ensures .0) ∙ turned-away (s .antinit2 .result) (c .before .answer .given .0 .0) (c .before .answer .given .1))
 
 same-length-2 : tie.Need-same-length-2
 same-length-2 c = search needs
@@ -73,7 +73,7 @@ returns-4 c =
     let parm = p .before .before .before .before .before .before .before .args .parm .now in
     let readings = search .before .before .before .answer2 .given .0 .0 in
     let e : p .parm-at .result ≡ parm = p .parm-at .ensures ∙ take-all 20 parm (omega arith) in
-    rw (eq-eqb _ _ (p .before .before .if1 .left), eq-eqb _ _ (p .before .if2 .left), ← e, ← s .antinit2 .ensures .1, sym (s .antinit2 .ensures .0) ∙ ready (s .antinit2 .result) readings (search .before .before .before .answer2 .given .1), put .put-row .ensures .0, put .put-row .ensures .1, row .row .ensures .0, row .row .ensures .1, search .put-search .ensures)
+    rw (eq-eqb _ _ (p .before .before .if1 .left), eq-eqb _ _ (p .before .if2 .left), ← e, ← s .antinit2 .ensures .1 .0, sym (s .antinit2 .ensures .0) ∙ ready (s .antinit2 .result) readings (search .before .before .before .answer2 .given .1), put .put-row .ensures .0, put .put-row .ensures .1, row .row .ensures .0, row .row .ensures .1, search .put-search .ensures)
 
 pub hf-row-spec : {M : Type 1} → statement M
 hf-row-spec =

@@ -1,0 +1,98 @@
+-- Each call refuses by its table.
+use Prim.Native.Nat.{ℕ}
+use mathlib.Core.Path.{_≡_, refl, sym, subst}
+use mathlib.Core.Bool.{Bool, true, false, cond, not, _||_}
+use mathlib.Core.List.{List, [], _∷_}
+use native.Mathlib.Omega.{arith}
+use lib.ListN.{length, take}
+use lib.Dec.{ltb}
+use lib.Ieee.{Float}
+use lib.Ieee.Scale.{finite}
+use Rattle.answers.specs.Outcome.{Outcome, refused, accepted}
+use Rattle.answers.specs.Refusals.{PATTERN, LEVEL}
+use Rattle.answers.specs.Table.{Line, Refuses, firstOf, answeredBy, rising}
+use Rattle.answers.proofs.Table.{by-table, refuses}
+use Rattle.model.specs.Table.{tableSize}
+use Rattle.maxgain.specs.Refusals as maxgain
+use Rattle.maxgain.specs.Maximum as maximum
+use Rattle.curtain.specs.Answers as curtain
+use Rattle.curtain.specs.Level.{levelOf}
+use Rattle.station.specs.Answers as station
+use Rattle.station.specs.declared.Station.{Station}
+use Rattle.antenna.specs.Limits.{refusalOf}
+use Rattle.antenna.specs.Asked.{askedRefusal}
+use Rattle.antenna.specs.SetUp.{acceptedOf, found, searched, setUpOf}
+use Rattle.antenna.specs.Gain.{kindOf, graded, numberAt, gainAsked, gainOf}
+use Rattle.antenna.specs.Row.{measured, rowAsked, rowOf}
+use Rattle.antenna.specs.declared.record.Antenna.{Antenna}
+use Rattle.claims.specs.Tables.{maximumTable, searchOf, setUpTable, gainTable, rowTable, curtainTable, readTable, writeTable, outcomeOf}
+use Rattle.claims.specs.Refusals.{Refusals}
+
+setmaxgain : (mode : ℕ) (parm gainmax gainmaxb : List Float) (mhz design : Float)
+    → Refuses (maximum.setMaxGain mode parm gainmax gainmaxb mhz design) (maximumTable mode parm gainmax gainmaxb mhz design)
+unfolding maximum.setMaxGain maximum.graded maxgain.refusalOf maximumTable firstOf rising
+setmaxgain mode parm gainmax gainmaxb mhz design =
+    refuses _ (take 4 (maximumTable mode parm gainmax gainmaxb mhz design)) LEVEL _ _ refl refl (omega arith) refl
+
+antinit2 : (p : List Float) (size : ℕ) → Refuses (setUpOf p size) (setUpTable p size)
+unfolding setUpOf searched found acceptedOf refusalOf setUpTable searchOf firstOf rising
+antinit2 p size = refuses _ (take 6 (setUpTable p size)) PATTERN _ _ refl refl (omega arith) refl
+
+or-false : (b : Bool) → (b || false) ≡ b
+or-false true = refl
+or-false false = refl
+
+ccirgain : (a : Antenna) (t : List Float) (u v giso : Float) → Refuses (gainOf a t u v giso) (gainTable a t u v giso)
+unfolding gainOf graded askedRefusal gainAsked gainTable firstOf rising
+ccirgain a t u v giso =
+    let x = numberAt (a .model) (a .peak .z6) t u v giso in
+    refuses (gainOf a t u v giso) (take 4 (gainTable a t u v giso)) LEVEL (not (finite x)) (kindOf (a .peak .z6) x, x) refl refl (omega arith) (rw (or-false (ltb (length t) tableSize)))
+
+row : (a : Antenna) (t : List Float) (u giso : Float) (size : ℕ) → Refuses (rowOf a t u giso size) (rowTable a t u giso size)
+unfolding rowOf measured askedRefusal rowAsked rowTable firstOf rising
+row a t u giso size = refuses _ (take 5 (rowTable a t u giso size)) LEVEL _ _ refl refl (omega arith) refl
+
+-- two conditions of one number
+either : (p q : Bool) (n rest : ℕ) → cond p n (cond q n rest) ≡ cond (p || q) n rest
+either true q n rest = refl
+either false q n rest = refl
+
+turned : {A : Type 0} (b : Bool) (x y : A) → cond b x y ≡ cond (not b) y x
+turned true x y = refl
+turned false x y = refl
+
+curtain-gain : (parm : List Float) (azimd elevd gnorm : Float) → Refuses (curtain.curtainGain parm azimd elevd gnorm) (curtainTable parm azimd elevd gnorm)
+unfolding curtain.curtainGain curtain.graded curtain.refusalOf curtain.stationRefusalOf curtainTable firstOf rising
+curtain-gain parm azimd elevd gnorm =
+    let x = levelOf parm azimd elevd gnorm in
+    refuses _ (take 3 (curtainTable parm azimd elevd gnorm)) LEVEL (not (finite x)) x refl refl (omega arith) (rw (either, turned (finite x) (accepted x) (refused LEVEL)))
+
+-- reader and writer
+module _ {A : Type 0} (x left : A) where
+  two-tries : (p q : Bool) → outcomeOf (cond p (station.refused 1 left) (cond q (station.refused 2 left) (station.accepted x))) ≡ answeredBy ((1, p) ∷ (2, q) ∷ []) x
+  unfolding outcomeOf answeredBy firstOf
+  two-tries true q = refl
+  two-tries false true = refl
+  two-tries false false = refl
+
+  three-tries : (p q r : Bool)
+      → outcomeOf (cond p (station.refused 2 left) (cond q (station.refused 4 left) (cond r (station.refused 8 left) (station.accepted x)))) ≡ answeredBy ((2, p) ∷ (4, q) ∷ (8, r) ∷ []) x
+  unfolding outcomeOf answeredBy firstOf
+  three-tries true q r = refl
+  three-tries false true r = refl
+  three-tries false false true = refl
+  three-tries false false false = refl
+
+answered : {A : Type 0} {o : Outcome A} (t : List Line) (x : A) → rising 0 t ≡ true → o ≡ answeredBy t x → Refuses o t
+answered {A} t x r e = subst (λ (y : Outcome A). Refuses y t) (sym e) (by-table t r x)
+
+reader : (bytes : List ℕ) → Refuses (outcomeOf (station.readOf bytes)) (readTable bytes)
+unfolding station.readOf station.floatsAnswer readTable rising
+reader bytes = answered (readTable bytes) _ refl (two-tries _ _ _ _)
+
+writer : (s : Station) (out : List ℕ) → Refuses (outcomeOf (station.writeOf s out)) (writeTable s out)
+unfolding station.writeOf writeTable rising
+writer s out = answered (writeTable s out) _ refl (three-tries _ _ _ _ _)
+
+pub refusals : Refusals
+refusals = record { setmaxgain = setmaxgain; antinit2 = antinit2; ccirgain = ccirgain; row = row; curtain = curtain-gain; reader = reader; writer = writer }

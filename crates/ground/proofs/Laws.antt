@@ -1,0 +1,2 @@
+-- What `antenna`'s laws cite.
+pub use Rattle.ground.proofs.parmprec.FlatTable.{table-length}
