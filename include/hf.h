@@ -5,8 +5,8 @@
  * const; two lent pieces of one call must not overlap. That is all that a caller owes. A call keeps no state and no pointer, so
  * threads may call at once; hf_gains, hf_row and hf_plate take up to 180 kB of the stack (measured on x86-64).
  *
- * Refusals: 1 record, 2 value, 3 type, 4 mode, 5 band, 6 count, 7 aim, 8 space, 9 pattern, 10 level; the README says what each
- * means. A refusal leaves all that is lent as it was (hf_row has one exception). "bits" are a 32-bit float's; a NaN is 7FC00000.
+ * Refusals: 1 record, 2 value, 3 type, 4 mode, 5 band, 6 count, 7 aim, 8 space, 9 pattern, 10 level, 12 row, 13 gap, 14 overlap;
+ * the README says what each means. A refusal leaves all that is lent as it was (hf_row has one exception). "bits" are a 32-bit float's; a NaN is 7FC00000.
  * A `parm` has an antenna's 20 parameters. */
 #ifndef HF_H
 #define HF_H
@@ -20,6 +20,13 @@ extern "C" {
 
 /* What a gain is; the second word beside it has the number's bits, or the refusal's number. */
 enum hf_kind { HF_LEVEL = 0, HF_FLOOR = 1, HF_SILENCE = 2, HF_REFUSED = 3 };
+
+/* The kind of an answer of 64 bits, beside 0 and HF_REFUSED, that is a refusal with a place: its lower half is the refusal's number
+ * times 65,536, plus the place. */
+enum { HF_REFUSED_AT = 4 };
+
+/* The most rows of a band book. */
+enum { HF_BOOK_ROWS = 64 };
 
 /* An elementary function, bits in and bits out: 0 sin, 1 cos, 2 ln, 3 log10, 4 powf(a, b), 5 atan, 6 sqrt. Returns a NaN outside
  * the function's domain. b counts for powf alone. */
@@ -59,6 +66,18 @@ uint32_t hf_write(const uint32_t *words, size_t words_len, uint8_t *record, size
 /* The program `plate`: from its whole input (237 bytes) to its whole text. Returns the text's length; 0 with nothing written where
  * text is under 8,192 bytes. A refusal is a text: "refused 6\n". */
 size_t hf_plate(const uint8_t *input, size_t input_len, uint8_t *text, size_t text_len);
+
+/* A band book: rows of low kHz, high kHz (not included) and station id, three words each, in any order. A good book has at most
+ * HF_BOOK_ROWS rows and covers every whole kHz from 2,000 up to, not including, 30,000 just once. Returns 0 for a good book; or
+ * HF_REFUSED_AT times 2^32, plus the refusal times 65,536, plus the place: 12 with the first bad row, counted from 0 (low not below
+ * high, low under 2,000, high over 30,000, an id that isn't 1 to 65,535, a 65th row), else 13 (no row covers it) or 14 (several do)
+ * with the lowest bad kHz; HF_REFUSED times 2^32 plus 8 first of all where rows_len isn't a multiple of 3. */
+uint64_t hf_book(const uint32_t *rows, size_t rows_len);
+
+/* The station for a kHz. Returns the id of the one row that covers it; what hf_book returns where the book isn't good; or else
+ * HF_REFUSED times 2^32 plus 12 where the kHz isn't 2,000 to 29,999. The book is judged at each call: some 7 microseconds for 64
+ * rows. */
+uint64_t hf_station_for(const uint32_t *rows, size_t rows_len, uint32_t khz);
 
 #ifdef __cplusplus
 }

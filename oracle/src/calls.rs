@@ -97,4 +97,6 @@ pub const CALLS: &[Call] = calls! {
     gains(parm: Floats, giso: Float, directions: Floats, out: LentWords)
     row(parm: Floats, table: LentFloats, giso: Float, elevation: Float, row: LentFloats, out: LentWords)
     plate(input: Bytes, text: LentBytes)
+    book(rows: Words)
+    station_for(rows: Words, khz: Word)
 };

@@ -8,7 +8,7 @@ use crate::leaf::{NAMES, POWF};
 use crate::random::Random;
 use crate::record::{self, BYTES, WORDS};
 use crate::stored::{head, lent_bytes, lent_floats, lent_words, place, Record, ROOT};
-use crate::{broken, stations};
+use crate::{books, broken, stations};
 
 /// The cases that an impostor has.
 pub const CASES: usize = 3;
@@ -31,6 +31,8 @@ fn inputs_of(call: &Call) -> (u64, Inputs) {
         "gains" => (240, gains),
         "row" => (180, row),
         "plate" => (100, plate),
+        "book" => (80, book),
+        "station_for" => (80, station_for),
         name => panic!("{name} has no inputs"),
     }
 }
@@ -195,6 +197,26 @@ fn plate(random: &mut Random, k: u64) -> Vec<Value> {
     input.truncate(240);
     let lent = if k % 20 == 19 { random.pick(&[0, 100, 8191]) } else { 8192 + k as usize % 2 };
     vec![Value::Bytes(input), lent_bytes(lent)]
+}
+
+/// One in four is any book; the others have few rows, so that a list is short.
+fn short_book(random: &mut Random, k: u64) -> Vec<u32> {
+    loop {
+        let words = books::words(random);
+        if k % 4 == 3 || words.len() <= 18 {
+            return words;
+        }
+    }
+}
+
+fn book(random: &mut Random, k: u64) -> Vec<Value> {
+    vec![Value::Words(short_book(random, k))]
+}
+
+fn station_for(random: &mut Random, k: u64) -> Vec<Value> {
+    let words = short_book(random, k);
+    let khz = books::khz(random, &words);
+    vec![Value::Words(words), Value::Word(khz)]
 }
 
 /// Whether a stored record's input is kept: those of a number are made anew, a case goes with its impostor.

@@ -2,6 +2,7 @@
 //! A slice of the wrong length is refused as 8 before anything else, except a lent table and row, whose place is document 01's.
 use super::expected::{self, Gains, Refusal, SPACE, TABLE};
 use super::plate as program;
+pub use crate::bandbook::{book, station_for};
 pub use crate::leaf::by_rules as leaf;
 use crate::record;
 

@@ -29,6 +29,8 @@ mod raw {
         ) -> u32;
         pub fn hf_read(record: *const u8, record_len: usize, words: *mut u32, words_len: usize) -> u32;
         pub fn hf_write(words: *const u32, words_len: usize, record: *mut u8, record_len: usize) -> u32;
+        pub fn hf_book(rows: *const u32, rows_len: usize) -> u64;
+        pub fn hf_station_for(rows: *const u32, rows_len: usize, khz: u32) -> u64;
         pub fn hf_plate(input: *const u8, input_len: usize, text: *mut u8, text_len: usize) -> usize;
     }
 }
@@ -70,6 +72,16 @@ pub fn read(record: &[u8], words: &mut [u32]) -> u32 {
 pub fn write(words: &[u32], record: &mut [u8]) -> u32 {
     // SAFETY: as above.
     unsafe { raw::hf_write(words.as_ptr(), words.len(), record.as_mut_ptr(), record.len()) }
+}
+
+pub fn book(rows: &[u32]) -> u64 {
+    // SAFETY: as above.
+    unsafe { raw::hf_book(rows.as_ptr(), rows.len()) }
+}
+
+pub fn station_for(rows: &[u32], khz: u32) -> u64 {
+    // SAFETY: as above.
+    unsafe { raw::hf_station_for(rows.as_ptr(), rows.len(), khz) }
 }
 
 pub fn plate(input: &[u8], text: &mut [u8]) -> usize {

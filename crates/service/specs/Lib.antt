@@ -4,6 +4,7 @@ pub mod Packed
 pub mod Leaf
 pub mod Maximum
 pub mod Curtain
+pub mod Book
 pub mod Search
 pub mod Gains
 pub mod Row

@@ -1,5 +1,6 @@
 // What Rust and C callers link: the functions of the layers below over plain numbers and slices.
 mod arrays;
+pub mod books;
 pub mod curtains;
 pub mod gains;
 pub mod leaf;

@@ -2,3 +2,6 @@
 
 // Refused, with the number.
 pub(crate) const REFUSED: u64 = 0x3_0000_0000;
+
+// Refused, with the number times 65,536 and a place.
+pub(crate) const REFUSED_AT: u64 = 0x4_0000_0000;

@@ -1,6 +1,7 @@
 //! Times of a call, the proved library beside the same rules in plain Rust, in one run. usage: bench
 #[cfg(source)]
 mod antennas;
+mod books;
 mod clock;
 mod leaves;
 
@@ -8,4 +9,5 @@ fn main() {
     leaves::run();
     #[cfg(source)]
     antennas::run();
+    books::run();
 }

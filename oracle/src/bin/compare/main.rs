@@ -4,7 +4,7 @@
 #![cfg_attr(not(source), allow(dead_code))]
 #[cfg(source)]
 mod antenna_edges;
-#[cfg(source)]
+mod books;
 mod cases;
 #[cfg(source)]
 mod curtains;
@@ -50,6 +50,7 @@ const CALLS: &[Call] = &[
     ("record", 300_000, records::compare),
     #[cfg(source)]
     ("plate", 20_000, plates::compare),
+    ("book", 200_000, books::compare),
 ];
 
 /// A word of the command line: a call, with its number of cases or the gate's.
