@@ -5,8 +5,9 @@
  * const; two lent pieces of one call must not overlap. That is all that a caller owes. A call keeps no state and no pointer, so
  * threads may call at once; hf_gains, hf_row and hf_plate take up to 180 kB of the stack (measured on x86-64).
  *
- * Refusals: 1 record, 2 value, 3 type, 4 mode, 5 band, 6 count, 7 aim, 8 space, 9 pattern, 10 level, 12 row, 13 gap, 14 overlap;
- * the README says what each means. A refusal leaves all that is lent as it was (hf_row has one exception). "bits" are a 32-bit float's; a NaN is 7FC00000.
+ * Refusals: 1 record, 2 value, 3 type, 4 mode, 5 band, 6 count, 7 aim, 8 space, 9 pattern, 10 level, 11 calendar, 12 row, 13 gap,
+ * 14 overlap; the README says what each means. A refusal leaves all that is lent as it was (hf_row has one exception). "bits" are
+ * a 32-bit float's; a NaN is 7FC00000.
  * A `parm` has an antenna's 20 parameters. */
 #ifndef HF_H
 #define HF_H
@@ -27,6 +28,12 @@ enum { HF_REFUSED_AT = 4 };
 
 /* The most rows of a band book. */
 enum { HF_BOOK_ROWS = 64 };
+
+/* The seasons of frequency sheets. */
+enum hf_seasons { HF_SEASON_A = 0, HF_SEASON_B = 1 };
+
+/* The words of a time: year, month, day, minute of the day. */
+#define HF_TIME 4
 
 /* An elementary function, bits in and bits out: 0 sin, 1 cos, 2 ln, 3 log10, 4 powf(a, b), 5 atan, 6 sqrt. Returns a NaN outside
  * the function's domain. b counts for powf alone. */
@@ -78,6 +85,21 @@ uint64_t hf_book(const uint32_t *rows, size_t rows_len);
  * HF_REFUSED times 2^32 plus 12 where the kHz isn't 2,000 to 29,999. The book is judged at each call: some 7 microseconds for 64
  * rows. */
 uint64_t hf_station_for(const uint32_t *rows, size_t rows_len, uint32_t khz);
+
+/* The season at a time in UTC: a year from 2000 to 2099, a month from 1, a day from 1, a minute of the day from 0 to 1439. A runs
+ * from 01:00 on the last Sunday of March, B from 01:00 on the last Sunday of October. Returns HF_SEASON_A or HF_SEASON_B, or
+ * HF_REFUSED times 2^32 plus 11 for a date outside those years or not in its month, or a minute above 1439. */
+uint64_t hf_season(uint32_t year, uint32_t month, uint32_t day, uint32_t minute);
+
+/* The next change of season, always later than the time given, into out (HF_TIME words). Returns 1 with out written; 0 where there
+ * is none, from 25 October 2099, 01:00, on; or HF_REFUSED times 2^32 plus 11 as in hf_season, plus 8 first where out isn't HF_TIME
+ * words. */
+uint64_t hf_next_season(uint32_t year, uint32_t month, uint32_t day, uint32_t minute, uint32_t *out, size_t out_len);
+
+/* Whether a service is open at a minute of the day: it is from its first minute on, and no longer at its end; where the end comes
+ * before the first it runs past midnight, and with both equal all day. Returns 1 for open, 0 for shut, or HF_REFUSED times 2^32
+ * plus 11 where one of the three is above 1439. */
+uint64_t hf_open(uint32_t first, uint32_t end, uint32_t minute);
 
 #ifdef __cplusplus
 }

@@ -99,4 +99,7 @@ pub const CALLS: &[Call] = calls! {
     plate(input: Bytes, text: LentBytes)
     book(rows: Words)
     station_for(rows: Words, khz: Word)
+    season(year: Word, month: Word, day: Word, minute: Word)
+    next_season(year: Word, month: Word, day: Word, minute: Word, out: LentWords)
+    open(first: Word, end: Word, minute: Word)
 };

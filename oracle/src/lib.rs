@@ -3,6 +3,7 @@
 pub mod bandbook;
 pub mod books;
 pub mod broken;
+pub mod calendar;
 pub mod calls;
 pub mod examples;
 #[cfg(source)]

@@ -1,5 +1,6 @@
 //! What the stored lists ask: for each call some inputs by number, from the same seed each time, and before them the cases that show
 //! an impostor. `bin/write_stored.rs` writes the lists, `compare stored` holds those that are stored to these.
+use crate::calendar::walk;
 use crate::calls::{Call, Value, CALLS};
 use crate::expected::{ROW, TABLE};
 use crate::impostor;
@@ -33,6 +34,9 @@ fn inputs_of(call: &Call) -> (u64, Inputs) {
         "plate" => (100, plate),
         "book" => (80, book),
         "station_for" => (80, station_for),
+        "season" => (90, season),
+        "next_season" => (90, next_season),
+        "open" => (60, open),
         name => panic!("{name} has no inputs"),
     }
 }
@@ -217,6 +221,48 @@ fn station_for(random: &mut Random, k: u64) -> Vec<Value> {
     let words = short_book(random, k);
     let khz = books::khz(random, &words);
     vec![Value::Words(words), Value::Word(khz)]
+}
+
+/// A time near a change, any of the hundred years, or none.
+fn time(random: &mut Random, k: u64) -> [u32; 4] {
+    let year = 2000 + random.below(100) as u32;
+    let month = 1 + random.below(12) as u32;
+    let (day, minute) = (1 + random.below(28) as u32, random.below(1440) as u32);
+    match k % 10 {
+        0..=4 => {
+            let ((number, minute), _) = walk().changes[random.below(200) as usize];
+            let (year, month, day) = walk().days[number];
+            [year, month, day, minute - 1 + random.below(3) as u32]
+        }
+        5 => [random.pick(&[0, 1999, 2100, u32::MAX]), month, day, minute],
+        6 => [year, random.pick(&[0, 13, u32::MAX]), day, minute],
+        7 => [year, month, random.pick(&[0, 29, 30, 31, 32]), minute],
+        8 => [year, month, day, random.pick(&[0, 1439, 1440, u32::MAX])],
+        _ => [random.pick(&[2000, 2099]), random.pick(&[1, 3, 10, 12]), random.pick(&[1, 24, 25, 26, 31]), minute],
+    }
+}
+
+fn season(random: &mut Random, k: u64) -> Vec<Value> {
+    time(random, k).map(Value::Word).to_vec()
+}
+
+fn next_season(random: &mut Random, k: u64) -> Vec<Value> {
+    let lent = if k % 15 == 14 { random.pick(&[0, 3, 5]) } else { 4 };
+    time(random, k).map(Value::Word).into_iter().chain([lent_words(lent)]).collect()
+}
+
+/// A minute near one of the service's ends, or any.
+fn open(random: &mut Random, k: u64) -> Vec<Value> {
+    let [first, end, any] = [0; 3].map(|_: u32| random.below(1440) as u32);
+    let given = match k % 8 {
+        0 | 1 => [first, end, first],
+        2 | 3 => [first, end, end],
+        4 => [first, first, any],
+        5 => [first, end, end.saturating_sub(1)],
+        6 => [first, end, any],
+        _ => [first, end, any].map(|minute| if random.below(2) == 0 { random.pick(&[1439, 1440, u32::MAX]) } else { minute }),
+    };
+    given.map(Value::Word).to_vec()
 }
 
 /// Whether a stored record's input is kept: those of a number are made anew, a case goes with its impostor.

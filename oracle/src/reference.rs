@@ -3,6 +3,7 @@
 use super::expected::{self, Gains, Refusal, SPACE, TABLE};
 use super::plate as program;
 pub use crate::bandbook::{book, station_for};
+pub use crate::calendar::{next_season, open, season};
 pub use crate::leaf::by_rules as leaf;
 use crate::record;
 

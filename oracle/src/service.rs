@@ -31,6 +31,9 @@ mod raw {
         pub fn hf_write(words: *const u32, words_len: usize, record: *mut u8, record_len: usize) -> u32;
         pub fn hf_book(rows: *const u32, rows_len: usize) -> u64;
         pub fn hf_station_for(rows: *const u32, rows_len: usize, khz: u32) -> u64;
+        pub fn hf_season(year: u32, month: u32, day: u32, minute: u32) -> u64;
+        pub fn hf_next_season(year: u32, month: u32, day: u32, minute: u32, out: *mut u32, out_len: usize) -> u64;
+        pub fn hf_open(first: u32, end: u32, minute: u32) -> u64;
         pub fn hf_plate(input: *const u8, input_len: usize, text: *mut u8, text_len: usize) -> usize;
     }
 }
@@ -82,6 +85,21 @@ pub fn book(rows: &[u32]) -> u64 {
 pub fn station_for(rows: &[u32], khz: u32) -> u64 {
     // SAFETY: as above.
     unsafe { raw::hf_station_for(rows.as_ptr(), rows.len(), khz) }
+}
+
+pub fn season(year: u32, month: u32, day: u32, minute: u32) -> u64 {
+    // SAFETY: numbers alone.
+    unsafe { raw::hf_season(year, month, day, minute) }
+}
+
+pub fn next_season(year: u32, month: u32, day: u32, minute: u32, out: &mut [u32]) -> u64 {
+    // SAFETY: as above.
+    unsafe { raw::hf_next_season(year, month, day, minute, out.as_mut_ptr(), out.len()) }
+}
+
+pub fn open(first: u32, end: u32, minute: u32) -> u64 {
+    // SAFETY: numbers alone.
+    unsafe { raw::hf_open(first, end, minute) }
 }
 
 pub fn plate(input: &[u8], text: &mut [u8]) -> usize {

@@ -9,3 +9,4 @@ pub mod Search
 pub mod Gains
 pub mod Row
 pub mod Record
+pub mod Calendar

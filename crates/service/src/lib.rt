@@ -1,6 +1,7 @@
 // What Rust and C callers link: the functions of the layers below over plain numbers and slices.
 mod arrays;
 pub mod books;
+pub mod calendars;
 pub mod curtains;
 pub mod gains;
 pub mod leaf;

@@ -2,11 +2,13 @@
 #[cfg(source)]
 mod antennas;
 mod books;
+mod calendar;
 mod clock;
 mod leaves;
 
 fn main() {
     leaves::run();
+    calendar::run();
     #[cfg(source)]
     antennas::run();
     books::run();

@@ -5,6 +5,7 @@
 #[cfg(source)]
 mod antenna_edges;
 mod books;
+mod calendar;
 mod cases;
 #[cfg(source)]
 mod curtains;
@@ -38,6 +39,7 @@ const CALLS: &[Call] = &[
     #[cfg(source)]
     ("antenna_edges", 1, antenna_edges::compare),
     ("leaf", 5_000_000, leaves::compare),
+    ("calendar", 1_000_000, calendar::compare),
     #[cfg(source)]
     ("maxgain", 300_000, maxgain::compare),
     #[cfg(source)]
