@@ -101,6 +101,18 @@ uint64_t hf_next_season(uint32_t year, uint32_t month, uint32_t day, uint32_t mi
  * plus 11 where one of the three is above 1439. */
 uint64_t hf_open(uint32_t first, uint32_t end, uint32_t minute);
 
+/* The last 64 field strengths of a run. The words of a state and of what is shown: */
+enum { HF_LEVELS_STATE = 66, HF_LEVELS_SHOWN = 3 };
+
+/* One level more. state is the caller's to keep: all 0 at the start, afterwards as the last record left it (a ring of 64 levels'
+ * bits, how many it holds, the next place 0 to 63). out: how many of the last 64 levels there are, then the bits of the greatest
+ * and of the least; where +0 and -0 tie, those of the one received earlier. Returns 0 or the refusal: 8 where out isn't 3; 2 for a
+ * level that isn't finite, which doesn't count; 8 where state isn't 66 or has words that no run could leave. */
+uint32_t hf_levels_record(uint32_t *state, size_t state_len, float level, uint32_t *out, size_t out_len);
+
+/* The same without a level; out is 0, 0, 0 where none was received. Returns 0 or 8. */
+uint32_t hf_levels(const uint32_t *state, size_t state_len, uint32_t *out, size_t out_len);
+
 #ifdef __cplusplus
 }
 #endif

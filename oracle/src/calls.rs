@@ -102,4 +102,6 @@ pub const CALLS: &[Call] = calls! {
     season(year: Word, month: Word, day: Word, minute: Word)
     next_season(year: Word, month: Word, day: Word, minute: Word, out: LentWords)
     open(first: Word, end: Word, minute: Word)
+    levels_record(state: Words, level: Float, left: LentWords, out: LentWords)
+    levels(state: Words, out: LentWords)
 };

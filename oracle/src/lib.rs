@@ -12,6 +12,7 @@ pub mod expected;
 pub mod impostor;
 pub mod impostors;
 pub mod leaf;
+pub mod levels;
 #[cfg(source)]
 pub mod lists;
 pub mod plain;

@@ -6,6 +6,7 @@ use crate::expected::{ROW, TABLE};
 use crate::impostor;
 use crate::impostors::{Impostor, IMPOSTORS};
 use crate::leaf::{NAMES, POWF};
+use crate::levels::{self as strengths, Run, SHOWN};
 use crate::random::Random;
 use crate::record::{self, BYTES, WORDS};
 use crate::stored::{head, lent_bytes, lent_floats, lent_words, place, Record, ROOT};
@@ -37,6 +38,8 @@ fn inputs_of(call: &Call) -> (u64, Inputs) {
         "season" => (90, season),
         "next_season" => (90, next_season),
         "open" => (60, open),
+        "levels_record" => (60, levels_record),
+        "levels" => (40, levels),
         name => panic!("{name} has no inputs"),
     }
 }
@@ -263,6 +266,29 @@ fn open(random: &mut Random, k: u64) -> Vec<Value> {
         _ => [first, end, any].map(|minute| if random.below(2) == 0 { random.pick(&[1439, 1440, u32::MAX]) } else { minute }),
     };
     given.map(Value::Word).to_vec()
+}
+
+/// A state after a short run or one that goes round, damaged in one of three; the words of what is shown.
+fn levels_state(random: &mut Random, k: u64) -> (Vec<u32>, usize) {
+    let count = [0, 1, 2, 5, 63, 64, 65, 100][k as usize % 8];
+    let few: Vec<f32> = strengths::levels(random, 6);
+    let sent = (0..count).map(|_| random.pick(&few));
+    let mut state = Run::of(sent).state().to_vec();
+    if k % 3 == 2 {
+        strengths::damage(random, &mut state);
+    }
+    (state, if k % 20 == 19 { random.pick(&[0, 2, 4]) } else { SHOWN })
+}
+
+fn levels_record(random: &mut Random, k: u64) -> Vec<Value> {
+    let ((state, out), level) = (levels_state(random, k), strengths::level(random));
+    let left = lent_words(state.len());
+    vec![Value::Words(state), Value::Float(level), left, lent_words(out)]
+}
+
+fn levels(random: &mut Random, k: u64) -> Vec<Value> {
+    let (state, out) = levels_state(random, k);
+    vec![Value::Words(state), lent_words(out)]
 }
 
 /// Whether a stored record's input is kept: those of a number are made anew, a case goes with its impostor.

@@ -5,7 +5,8 @@ use super::plate as program;
 pub use crate::bandbook::{book, station_for};
 pub use crate::calendar::{next_season, open, season};
 pub use crate::leaf::by_rules as leaf;
-use crate::record;
+pub use crate::levels::show as levels;
+use crate::{levels as strengths, record};
 
 /// The refusal's number, or 0.
 fn code(answer: Result<(), Refusal>) -> u32 {
@@ -90,4 +91,10 @@ pub fn plate(input: &[u8], text: &mut [u8]) -> usize {
     let output = program::output(input);
     text[..output.len()].copy_from_slice(output.as_bytes());
     output.len()
+}
+
+/// The state is given, and copied to the words that are lent.
+pub fn levels_record(state: &[u32], level: f32, left: &mut [u32], out: &mut [u32]) -> u32 {
+    left.copy_from_slice(state);
+    strengths::record(left, level, out)
 }

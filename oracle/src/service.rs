@@ -35,6 +35,8 @@ mod raw {
         pub fn hf_next_season(year: u32, month: u32, day: u32, minute: u32, out: *mut u32, out_len: usize) -> u64;
         pub fn hf_open(first: u32, end: u32, minute: u32) -> u64;
         pub fn hf_plate(input: *const u8, input_len: usize, text: *mut u8, text_len: usize) -> usize;
+        pub fn hf_levels_record(state: *mut u32, state_len: usize, level: f32, out: *mut u32, out_len: usize) -> u32;
+        pub fn hf_levels(state: *const u32, state_len: usize, out: *mut u32, out_len: usize) -> u32;
     }
 }
 
@@ -105,4 +107,20 @@ pub fn open(first: u32, end: u32, minute: u32) -> u64 {
 pub fn plate(input: &[u8], text: &mut [u8]) -> usize {
     // SAFETY: as above.
     unsafe { raw::hf_plate(input.as_ptr(), input.len(), text.as_mut_ptr(), text.len()) }
+}
+
+/// `hf_levels_record` itself; `levels_record` below gives a state and lends the words that it is copied to.
+pub fn record_level(state: &mut [u32], level: f32, out: &mut [u32]) -> u32 {
+    // SAFETY: as above.
+    unsafe { raw::hf_levels_record(state.as_mut_ptr(), state.len(), level, out.as_mut_ptr(), out.len()) }
+}
+
+pub fn levels_record(state: &[u32], level: f32, left: &mut [u32], out: &mut [u32]) -> u32 {
+    left.copy_from_slice(state);
+    record_level(left, level, out)
+}
+
+pub fn levels(state: &[u32], out: &mut [u32]) -> u32 {
+    // SAFETY: as above.
+    unsafe { raw::hf_levels(state.as_ptr(), state.len(), out.as_mut_ptr(), out.len()) }
 }

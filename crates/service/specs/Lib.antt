@@ -10,3 +10,4 @@ pub mod Gains
 pub mod Row
 pub mod Record
 pub mod Calendar
+pub mod Strengths

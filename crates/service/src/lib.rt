@@ -12,3 +12,4 @@ pub mod plates;
 pub mod record;
 pub mod rows;
 mod search;
+pub mod strengths;

@@ -5,6 +5,7 @@ mod books;
 mod calendar;
 mod clock;
 mod leaves;
+mod levels;
 
 fn main() {
     leaves::run();
@@ -12,4 +13,5 @@ fn main() {
     #[cfg(source)]
     antennas::run();
     books::run();
+    levels::run();
 }

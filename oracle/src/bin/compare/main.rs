@@ -15,6 +15,7 @@ mod gains;
 #[cfg(source)]
 mod impostors;
 mod leaves;
+mod levels;
 #[cfg(source)]
 mod maxgain;
 #[cfg(source)]
@@ -53,6 +54,7 @@ const CALLS: &[Call] = &[
     #[cfg(source)]
     ("plate", 20_000, plates::compare),
     ("book", 200_000, books::compare),
+    ("levels", 100_000, levels::compare),
 ];
 
 /// A word of the command line: a call, with its number of cases or the gate's.
