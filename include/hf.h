@@ -6,8 +6,8 @@
  * threads may call at once; hf_gains, hf_row and hf_plate take up to 180 kB of the stack (measured on x86-64).
  *
  * Refusals: 1 record, 2 value, 3 type, 4 mode, 5 band, 6 count, 7 aim, 8 space, 9 pattern, 10 level, 11 calendar, 12 row, 13 gap,
- * 14 overlap; the README says what each means. A refusal leaves all that is lent as it was (hf_row has one exception). "bits" are
- * a 32-bit float's; a NaN is 7FC00000.
+ * 14 overlap, 16 call, 17 full; the README says what each means. A refusal leaves all that is lent as it was (hf_row has one
+ * exception). "bits" are a 32-bit float's; a NaN is 7FC00000.
  * A `parm` has an antenna's 20 parameters. */
 #ifndef HF_H
 #define HF_H
@@ -112,6 +112,27 @@ uint32_t hf_levels_record(uint32_t *state, size_t state_len, float level, uint32
 
 /* The same without a level; out is 0, 0, 0 where none was received. Returns 0 or 8. */
 uint32_t hf_levels(const uint32_t *state, size_t state_len, uint32_t *out, size_t out_len);
+
+/* The exercise board: which of at most sixteen stations on the air is the strongest at each of 360 azimuths. A board is HF_BOARD
+ * words that the caller keeps: how many are on, then sixteen places of 361 words, an id and the bits of its row, the first to join
+ * first; a free place is all 0. The calls on it return 8 where board isn't HF_BOARD words or they are words that no run of
+ * hf_board_empty, hf_board_join and hf_board_leave leaves. */
+#define HF_BOARD 5777
+
+/* Nobody is on. Returns 0, or 8 where board isn't HF_BOARD words; any words will do. */
+uint32_t hf_board_empty(uint32_t *board, size_t board_len);
+
+/* A station comes on the air with its id, 1 to 65,535, and its plate row of 360 finite numbers. Returns 0 or the refusal, tested in
+ * this order: 2; 8, also where row isn't 360; 16 another id, or one that is on; 17 sixteen are on. */
+uint32_t hf_board_join(uint32_t *board, size_t board_len, uint32_t id, const float *row, size_t row_len);
+
+/* The station of this id goes off the air, and its place is free. Returns 0 or the refusal (8; 16 where it isn't on). */
+uint32_t hf_board_leave(uint32_t *board, size_t board_len, uint32_t id);
+
+/* The greatest number at each azimuth of those on, also below -30, and the id that has it, the lowest among equals (+0 and -0 are
+ * equal; the number has the bits of the station shown); -30 and 0 where nobody is on. Returns 0, or 8, also where numbers or ids
+ * isn't 360. */
+uint32_t hf_board_show(const uint32_t *board, size_t board_len, float *numbers, size_t numbers_len, uint32_t *ids, size_t ids_len);
 
 #ifdef __cplusplus
 }

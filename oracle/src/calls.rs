@@ -104,4 +104,5 @@ pub const CALLS: &[Call] = calls! {
     open(first: Word, end: Word, minute: Word)
     levels_record(state: Words, level: Float, left: LentWords, out: LentWords)
     levels(state: Words, out: LentWords)
+    board(calls: Words, rows: Floats, words: LentWords, numbers: LentFloats, ids: LentWords)
 };

@@ -1,6 +1,7 @@
 //! The judge of the Rattle: document 01's rules written apart from it, the source's Rust over those rules, and the proved library
 //! behind safe wrappers.
 pub mod bandbook;
+pub mod board;
 pub mod books;
 pub mod broken;
 pub mod calendar;

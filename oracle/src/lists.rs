@@ -1,5 +1,6 @@
 //! What the stored lists ask: for each call some inputs by number, from the same seed each time, and before them the cases that show
 //! an impostor. `bin/write_stored.rs` writes the lists, `compare stored` holds those that are stored to these.
+use crate::board::{self, LEAVES};
 use crate::calendar::walk;
 use crate::calls::{Call, Value, CALLS};
 use crate::expected::{ROW, TABLE};
@@ -40,6 +41,7 @@ fn inputs_of(call: &Call) -> (u64, Inputs) {
         "open" => (60, open),
         "levels_record" => (60, levels_record),
         "levels" => (40, levels),
+        "board" => (60, board),
         name => panic!("{name} has no inputs"),
     }
 }
@@ -289,6 +291,33 @@ fn levels_record(random: &mut Random, k: u64) -> Vec<Value> {
 fn levels(random: &mut Random, k: u64) -> Vec<Value> {
     let (state, out) = levels_state(random, k);
     vec![Value::Words(state), lent_words(out)]
+}
+
+/// A few runs fill the board; rows are of six sectors, so that a list is short.
+fn board(random: &mut Random, k: u64) -> Vec<Value> {
+    let (mut calls, mut rows) = (Vec::new(), Vec::new());
+    let fills = k % 10 == 0;
+    for n in 0..if fills { 24 } else { random.below(8) as u32 } {
+        let id = if fills { 1 + n } else { random.pick(&[0, 1, 1, 2, 3, 40, 41, 65_535, 65_536]) };
+        if random.below(if fills { 12 } else { 4 }) == 0 {
+            calls.push(id | LEAVES);
+            continue;
+        }
+        calls.push(id);
+        let mut row: Vec<f32> = (0..6).flat_map(|_| [random.pick(&[0.0, -0.0, 7.5, -31.0, 1e-3]); 60]).collect();
+        if random.below(12) == 0 {
+            row[100] = random.pick(&[f32::NAN, f32::INFINITY]);
+        }
+        rows.extend(row);
+    }
+    let (words, numbers, ids) = match k % 20 {
+        17 => (random.pick(&[0, 5776, 5778]), 360, 360),
+        18 => (board::WORDS, random.pick(&[0, 359, 361]), 360),
+        19 => (board::WORDS, 360, random.pick(&[0, 359, 361])),
+        _ => (board::WORDS, 360, 360),
+    };
+    rows.truncate(rows.len() - if random.below(12) == 0 { rows.len().min(1) } else { 0 });
+    vec![Value::Words(calls), Value::Floats(rows), lent_words(words), lent_floats(numbers), lent_words(ids)]
 }
 
 /// Whether a stored record's input is kept: those of a number are made anew, a case goes with its impostor.

@@ -6,7 +6,7 @@ pub use crate::bandbook::{book, station_for};
 pub use crate::calendar::{next_season, open, season};
 pub use crate::leaf::by_rules as leaf;
 pub use crate::levels::show as levels;
-use crate::{levels as strengths, record};
+use crate::{board, levels as strengths, record};
 
 /// The refusal's number, or 0.
 fn code(answer: Result<(), Refusal>) -> u32 {
@@ -97,4 +97,10 @@ pub fn plate(input: &[u8], text: &mut [u8]) -> usize {
 pub fn levels_record(state: &[u32], level: f32, left: &mut [u32], out: &mut [u32]) -> u32 {
     left.copy_from_slice(state);
     strengths::record(left, level, out)
+}
+
+/// The board's four calls in turn.
+pub fn board(calls: &[u32], rows: &[f32], words: &mut [u32], numbers: &mut [f32], ids: &mut [u32]) -> u32 {
+    let oracle = board::Calls { empty: board::empty, join: board::join, leave: board::leave, show: board::show };
+    board::run(&oracle, calls, rows, words, numbers, ids)
 }

@@ -1,5 +1,6 @@
 //! The proved library's calls. Nothing checks these declarations against the Rattle: keep both side by side in a review.
 //! A slice is a pointer, then a length.
+use crate::board;
 
 mod raw {
     extern "C" {
@@ -37,6 +38,17 @@ mod raw {
         pub fn hf_plate(input: *const u8, input_len: usize, text: *mut u8, text_len: usize) -> usize;
         pub fn hf_levels_record(state: *mut u32, state_len: usize, level: f32, out: *mut u32, out_len: usize) -> u32;
         pub fn hf_levels(state: *const u32, state_len: usize, out: *mut u32, out_len: usize) -> u32;
+        pub fn hf_board_empty(board: *mut u32, board_len: usize) -> u32;
+        pub fn hf_board_join(board: *mut u32, board_len: usize, id: u32, row: *const f32, row_len: usize) -> u32;
+        pub fn hf_board_leave(board: *mut u32, board_len: usize, id: u32) -> u32;
+        pub fn hf_board_show(
+            board: *const u32,
+            board_len: usize,
+            numbers: *mut f32,
+            numbers_len: usize,
+            ids: *mut u32,
+            ids_len: usize,
+        ) -> u32;
     }
 }
 
@@ -123,4 +135,31 @@ pub fn levels_record(state: &[u32], level: f32, left: &mut [u32], out: &mut [u32
 pub fn levels(state: &[u32], out: &mut [u32]) -> u32 {
     // SAFETY: as above.
     unsafe { raw::hf_levels(state.as_ptr(), state.len(), out.as_mut_ptr(), out.len()) }
+}
+
+pub fn board_empty(board: &mut [u32]) -> u32 {
+    // SAFETY: as above.
+    unsafe { raw::hf_board_empty(board.as_mut_ptr(), board.len()) }
+}
+
+pub fn board_join(board: &mut [u32], id: u32, row: &[f32]) -> u32 {
+    // SAFETY: as above.
+    unsafe { raw::hf_board_join(board.as_mut_ptr(), board.len(), id, row.as_ptr(), row.len()) }
+}
+
+pub fn board_leave(board: &mut [u32], id: u32) -> u32 {
+    // SAFETY: as above.
+    unsafe { raw::hf_board_leave(board.as_mut_ptr(), board.len(), id) }
+}
+
+pub fn board_show(board: &[u32], numbers: &mut [f32], ids: &mut [u32]) -> u32 {
+    let (numbers_len, numbers) = (numbers.len(), numbers.as_mut_ptr());
+    // SAFETY: as above.
+    unsafe { raw::hf_board_show(board.as_ptr(), board.len(), numbers, numbers_len, ids.as_mut_ptr(), ids.len()) }
+}
+
+/// The board's four calls in turn.
+pub fn board(calls: &[u32], rows: &[f32], words: &mut [u32], numbers: &mut [f32], ids: &mut [u32]) -> u32 {
+    let library = board::Calls { empty: board_empty, join: board_join, leave: board_leave, show: board_show };
+    board::run(&library, calls, rows, words, numbers, ids)
 }

@@ -2,6 +2,7 @@
 mod arrays;
 pub mod books;
 pub mod calendars;
+pub mod boards;
 pub mod curtains;
 pub mod gains;
 pub mod leaf;

@@ -1,6 +1,7 @@
 //! Times of a call, the proved library beside the same rules in plain Rust, in one run. usage: bench
 #[cfg(source)]
 mod antennas;
+mod boards;
 mod books;
 mod calendar;
 mod clock;
@@ -10,6 +11,7 @@ mod levels;
 fn main() {
     leaves::run();
     calendar::run();
+    boards::run();
     #[cfg(source)]
     antennas::run();
     books::run();

@@ -4,6 +4,7 @@
 #![cfg_attr(not(source), allow(dead_code))]
 #[cfg(source)]
 mod antenna_edges;
+mod board;
 mod books;
 mod calendar;
 mod cases;
@@ -55,6 +56,7 @@ const CALLS: &[Call] = &[
     ("plate", 20_000, plates::compare),
     ("book", 200_000, books::compare),
     ("levels", 100_000, levels::compare),
+    ("board", 500, board::compare),
 ];
 
 /// A word of the command line: a call, with its number of cases or the gate's.
