@@ -2,6 +2,9 @@
 pub mod Answered
 pub mod Edges
 pub mod Mirror
+pub mod CrossedMirror
+mod CrossedTables
+mod NoNumber
 pub mod RowGains
 mod Granted
 pub mod Outcomes

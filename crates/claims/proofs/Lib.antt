@@ -2,4 +2,6 @@
 pub mod Refusals
 pub mod Demand1
 pub mod MirrorLaw
+pub mod CrossedMirror
+pub mod Exceptions
 pub mod StarredEdges

@@ -3,4 +3,6 @@ pub mod Tables
 pub mod Refusals
 pub mod Demand1
 pub mod MirrorLaw
+pub mod CrossedMirror
+pub mod Exceptions
 pub mod StarredEdges

@@ -16,5 +16,10 @@
 // what it answers at v, for each whole azimuth but 90 and 270; a curtain whose rounded slew is -3
 // to 3 answers at every azimuth what it answers at its negative.
 //
+// What it leaves out breaks it: `exceptions : Exceptions`, specs/Exceptions.antt. Four accepted
+// stations, with the bits of two answers that differ: a type 2 at 90 and 270, the same with a slew, a
+// type 7 and a type 8. Type 9, of which document 01 claims nothing, keeps the law at every whole
+// azimuth: `crossed-mirror : CrossedMirror`, specs/CrossedMirror.antt.
+//
 // The starred edges: `starred-edges : StarredEdges`, specs/StarredEdges.antt. The single cases that
 // document 01 stars, in its order, one line each.

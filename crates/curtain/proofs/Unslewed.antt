@@ -6,10 +6,10 @@ use Prim.Native.Nat.{ℕ, zero, suc, _≤_}
 use native.Mathlib.Omega.{arith}
 use lib.IntN.{ℤ, pos, negsuc, natAbs}
 use lib.ListN.{getD, set, replicate}
-use lib.Ieee.{Float, nan, inf, fin, binary32, neg, ofBits, ofInt}
-use lib.Ieee.Scale.{finite}
+use lib.Ieee.{Float, nan, binary32, neg, ofBits, ofInt}
 use Rattle.floats.specs.Ops.{_⊗_, +0, +0-is}
 use Rattle.floats.specs.Opposite.{Opposite, negated, zeros}
+use Rattle.floats.proofs.Finite.{finite-neg}
 use Rattle.floats.proofs.Negation.{mul-neg-left}
 use Rattle.floats.proofs.Opposites.{mul-opposite-right}
 use Rattle.curtain.specs.Literals.{D2R}
@@ -84,12 +84,6 @@ module _ (parm : List Float) (h : natAbs (islewOf parm) ≤ 3) where
   unphased = filled-selves (λ (i : ℕ). odratOf parm ⊗ bayphs (islewOf parm) i) 14 phase-zero (nbsOf parm)
 
 -- ---- so it answers alike
-
-finite-neg : (x : Float) → finite (neg x) ≡ finite x
-unfolding neg
-finite-neg nan = refl
-finite-neg (inf s) = refl
-finite-neg (fin s m e) = refl
 
 module _ (parm : List Float) (h : natAbs (islewOf parm) ≤ 3) (azimd elevd gnorm : Float) where
   level-mirror : levelOf parm (neg azimd) elevd gnorm ≡ levelOf parm azimd elevd gnorm

@@ -13,7 +13,7 @@ use lib.Ieee.Fits.{up-pos, down-pos}
 use lib.Ieee.Scale.{round-same}
 use Rattle.floats.specs.Ops.{zero±, +0, +0-is}
 use Rattle.floats.specs.Opposite.{Opposite, negated, zeros}
-use Rattle.floats.proofs.Negation.{round-neg, mul-neg-right, mul-neg-neg}
+use Rattle.floats.proofs.Negation.{round-neg, mul-neg-left, mul-neg-right, mul-neg-neg}
 
 -- ---- products as `lib.Ieee` makes them of a significand and its scale
 
@@ -30,7 +30,7 @@ unfolding round
 round-zero-one binary32 s = refl
 round-zero-one binary64 s = refl
 
-round-zero : (f : Format) (s : Bool) (n c : ℕ) → n ≡ 0 → 0 < c → round f s n c ≡ zero± s
+pub round-zero : (f : Format) (s : Bool) (n c : ℕ) → n ≡ 0 → 0 < c → round f s n c ≡ zero± s
 round-zero f s n c e h = round-same f s n c 0 1 h (omega arith) (simp (e, zero-mul)) ∙ round-zero-one f s
 
 sum-left-zero : (f : Format) (s t : Bool) (a b c : ℕ) → a ≡ 0 → 0 < b → sum f s a t b c ≡ round f t b c
@@ -95,7 +95,7 @@ zero-plus-fin : (f : Format) (s t : Bool) (n : ℕ) (d : ℤ) → add f (zero± 
 unfolding add
 zero-plus-fin f s t n d = sum-left-zero f s t _ _ _ (zero-product 1 (down d)) (some-product n d)
 
-plus-zero-fin : (f : Format) (s t : Bool) (n : ℕ) (d : ℤ) → add f (fin s (suc n) d) (zero± t) ≡ round f s (suc n * up d * 1) (down d * 1)
+pub plus-zero-fin : (f : Format) (s t : Bool) (n : ℕ) (d : ℤ) → add f (fin s (suc n) d) (zero± t) ≡ round f s (suc n * up d * 1) (down d * 1)
 unfolding add
 plus-zero-fin f s t n d = sum-right-zero f s t _ _ _ (zero-product 1 (down d)) (some-product n d)
 
@@ -119,7 +119,7 @@ plus-zero f s s' (fin t zero d) =
 plus-zero f s s' (fin t (suc n) d) =
     negated (plus-zero-fin f (not t) s' n d ∙ round-neg f t _ _ ∙ ap neg (sym (plus-zero-fin f t s n d)))
 
-zero-plus-zero : (f : Format) (s t : Bool) → add f (zero± s) (zero± t) ≡ zero± (s && t)
+pub zero-plus-zero : (f : Format) (s t : Bool) → add f (zero± s) (zero± t) ≡ zero± (s && t)
 unfolding add
 zero-plus-zero f s t = sum-zeros f s t _ _ _ refl refl (den-pos (pos 0) (pos 0))
 
@@ -136,7 +136,7 @@ neg-zero s = refl
 pub with-neg : (x : Float) → Opposite x (neg x)
 with-neg x = negated refl
 
-neg-opposite : {x y : Float} → Opposite x y → Opposite (neg x) (neg y)
+pub neg-opposite : {x y : Float} → Opposite x y → Opposite (neg x) (neg y)
 neg-opposite (negated p) = negated (ap neg p)
 neg-opposite (zeros s t p q) = zeros (not s) (not t) (ap neg p ∙ neg-zero s) (ap neg q ∙ neg-zero t)
 
@@ -156,6 +156,17 @@ times-zero f s s' (fin t n d) =
 pub mul-opposite-right : (f : Format) {y y' : Float} (x : Float) → Opposite y y' → Opposite (mul f x y) (mul f x y')
 mul-opposite-right f {y} x (negated p) = rw p (negated (mul-neg-right f x y))
 mul-opposite-right f x (zeros s t p q) = rw (p, q) (times-zero f s t x)
+
+zero-times : (f : Format) (s s' : Bool) (y : Float) → Opposite (mul f (zero± s) y) (mul f (zero± s') y)
+unfolding mul neg
+zero-times f s s' nan = negated refl
+zero-times f s s' (inf t) = negated refl
+zero-times f s s' (fin t n d) =
+    zeros (unlike s t) (unlike s' t) (round-zero f _ _ _ (zero-product 1 (n * up d)) (den-pos (pos 0) d)) (round-zero f _ _ _ (zero-product 1 (n * up d)) (den-pos (pos 0) d))
+
+pub mul-opposite-left : (f : Format) {x x' : Float} (y : Float) → Opposite x x' → Opposite (mul f x y) (mul f x' y)
+mul-opposite-left f {x} y (negated p) = rw p (negated (mul-neg-left f x y))
+mul-opposite-left f y (zeros s t p q) = rw (p, q) (zero-times f s t y)
 
 -- a function that takes x and -x to one value takes opposite values to one
 pub even-same : (g : Float → Float) → ((x : Float) → g (neg x) ≡ g x) → {x y : Float} → Opposite x y → g x ≡ g y

@@ -11,6 +11,7 @@ use lib.Ieee.Fits.{sub-fits}
 use Rattle.floats.specs.Ops.{_⊕_, _⊖_, count, at}
 use Rattle.floats.specs.Literals.{one, ten, thirty, thirtyOne}
 use Rattle.floats.specs.Ranges.{between}
+use Rattle.floats.proofs.TimesOne.{times-one}
 use lib.Ieee.Scale.{finite}
 use Rattle.answers.specs.Outcome.{accepted}
 use Rattle.answers.specs.Refusals.{LEVEL}
@@ -19,7 +20,6 @@ use Rattle.model.specs.Types.{jantOf}
 use Rattle.maxgain.specs.Interpolation.{lowerMhz, gainTerB}
 use Rattle.maxgain.specs.Refusals.{refusalOf}
 use Rattle.maxgain.specs.Maximum.{usable, designed, tuned, tunedSlots, byRatio, found, graded, setMaxGain}
-use Rattle.maxgain.proofs.TimesOne.{times-one}
 
 tuned-at-31 : tuned thirtyOne one ≡ record { foper = ten; fdesign = ten }
 unfolding tuned usable designed between ofBits le lt eq div round

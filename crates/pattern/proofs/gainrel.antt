@@ -1,3 +1,3 @@
 -- What `gainrel` answers of no type, and what it reads of its table (`gainRel-table`).
 mod Untyped
-mod TableStart
+pub mod TableStart

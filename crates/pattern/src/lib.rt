@@ -1,8 +1,8 @@
 // The relative gain of antenna types 1 to 9 at one direction, an inner step of search and gain:
 // `gainrel` is `gainRel`, for every record whose counts are accepted (`countsOk`), every table of
 // at least `tableSize` floats, every elevation and azimuth. Theorems on it: `gainRel-mirror` (the
-// mirror law over the whole azimuths, types 1 to 6), `gainRel-table` (the table's first
-// `tableSize` floats are all that it reads).
+// mirror law over the whole azimuths, types 1 to 6), `gainRel-crossed` (type 9), `gainRel-table`
+// (the table's first `tableSize` floats are all that it reads).
 mod azimuth;
 mod boom;
 mod complex;

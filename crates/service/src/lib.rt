@@ -1,8 +1,8 @@
 // What Rust and C callers link: the functions of the layers below over plain numbers and slices.
 mod arrays;
+pub mod boards;
 pub mod books;
 pub mod calendars;
-pub mod boards;
 pub mod curtains;
 pub mod gains;
 pub mod leaf;

@@ -1,50 +1,23 @@
 -- The whole azimuths k and 360 - k fold to mirrored directions, or to one: a test computed over the 361 of them, and the law that
 -- turns it into the rule.
-use mathlib.Core.Path.{_≡_, refl, sym, subst}
+use mathlib.Core.Path.{_≡_, refl, sym}
 use mathlib.Core.Logic.{_⊎_, inl, inr}
 use mathlib.Core.Bool.{Bool, true, false, _&&_, _||_, Bool·beq}
 use mathlib.Core.List.{List}
-use Prim.Native.Nat.{ℕ, zero, suc, _-_, _<_, _≤_}
-use native.Mathlib.Nat.{not-suc-le-zero, le-of-suc-le-suc}
+use Prim.Native.Nat.{ℕ, _-_, _≤_}
 use native.Mathlib.Omega.{arith}
-use borrow.Author.Tests.{eqb-true, eqb-false, ne-eqb}
-use lib.Arith.{lt-of-le-ne}
+use borrow.Author.Tests.{ne-eqb}
 use lib.Dec.{T, eqb, eqb→eq}
 use lib.ListN.{getD}
 use lib.Ieee.{Float, nan, rem, toSigned, lt, le, sub, ofBits, ofInt, neg}
 use lib.Ieee.Fits.{and-l, and-r}
 use Rattle.floats.specs.Ops.{count}
 use Rattle.floats.specs.Rounding.{ifixOf}
+use Rattle.floats.proofs.Below.{all, all-at}
 use Rattle.numeric.proofs.Laws.{neg-neg}
 use Rattle.pattern.specs.declared.azimuth.Quadrant.{Quadrant}
 use Rattle.pattern.specs.Mirror.{mirror}
 use Rattle.pattern.specs.Azimuth.{signed, back180, inFirst, inSecond, inThird, quadrantOf, directionOf, behindScreen}
-
--- ---- a test over the numbers below n
-
-abbrev both : Bool → Bool → Bool
-both true b = b
-both false b = false
-
-abbrev all : (ℕ → Bool) → ℕ → Bool
-all f zero = true
-all f (suc n) = both (f n) (all f n)
-
-both-left : (a b : Bool) → T (both a b) → T a
-both-left true b t = tt
-both-left false b t = t
-
-both-right : (a b : Bool) → T (both a b) → T b
-both-right true b t = t
-both-right false b t = absurd t
-
-all-at : (f : ℕ → Bool) (n : ℕ) → T (all f n) → (k : ℕ) → k < n → T (f k)
-all-at f zero t k h = absurd (not-suc-le-zero h)
-all-at f (suc n) t k h = go (eqb k n) refl (all-at f n (both-right (f n) (all f n) t) k)
-  where
-    go : (e : Bool) → eqb k n ≡ e → (k < n → T (f k)) → T (f k)
-    go true e r = subst (λ (m : ℕ). T (f m)) (sym (eqb-true k n e)) (both-left (f n) (all f n) t)
-    go false e r = r (lt-of-le-ne (le-of-suc-le-suc h) (eqb-false k n e))
 
 -- ---- the quadrants of k and 360 - k
 

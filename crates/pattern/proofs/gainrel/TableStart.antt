@@ -24,11 +24,11 @@ use Rattle.pattern.specs.Gainrel.{gainIn, gainRel}
 same-entry : (n : ℕ) (s t : List Float) → take n s ≡ take n t → (i : ℕ) → i < n → getD s i nan ≡ getD t i nan
 same-entry n s t e i h = sym (getD-take n s i nan h) ∙ ap (λ (l : List Float). getD l i nan) e ∙ getD-take n t i nan h
 
-clamp-most : (z : ℤ) → clamp90 z ≤ 90
+pub clamp-most : (z : ℤ) → clamp90 z ≤ 90
 clamp-most (pos n) = omega arith
 clamp-most (negsuc n) = omega arith
 
-ifix-most : (x : Float) → ifixOf x ≤ 90
+pub ifix-most : (x : Float) → ifixOf x ≤ 90
 unfolding ifixOf
 ifix-most x = clamp-most (toSigned 31 x)
 

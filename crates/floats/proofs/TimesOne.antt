@@ -10,12 +10,12 @@ use lib.Ieee.{Float, nan, inf, fin, binary32, up, down, mul, round, fits, ofBits
 use lib.Ieee.Fits.{down-pos, round-fits}
 use lib.Ieee.Exact.{round-exact}
 use lib.Ieee.Scale.{round-same}
 use Rattle.floats.specs.Ops.{_⊗_}
 use Rattle.floats.specs.Literals.{one}
 use Rattle.numeric.proofs.Steps.{on-grid, steps-are, steps-lt, same-steps}
 
 -- a value that binary32 holds rounds to itself
-rounded : (s : Bool) (m : ℕ) (e : ℤ) → T (fits binary32 (fin s m e)) → round binary32 s (m * up e) (down e) ≡ fin s m e
+pub rounded : (s : Bool) (m : ℕ) (e : ℤ) → T (fits binary32 (fin s m e)) → round binary32 s (m * up e) (down e) ≡ fin s m e
 rounded s m e h =
     let x = fin s m e in
     let g = on-grid x h in
