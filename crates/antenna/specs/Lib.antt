@@ -9,3 +9,5 @@ pub mod SetUp
 pub mod Asked
 pub mod Gain
 pub mod Row
+-- The code's steps, proved equal to those above: a reader of the promises may pass them by.
+pub mod Folded

@@ -8,14 +8,19 @@ use crate::whole::truncated;
 use floats::range::all_finite;
 use floats::range::is_between;
 use model::record::Model;
+use numeric::bits::bits_of;
 use numeric::float::is_finite;
 use pattern::gainrel::gainrel;
 ghost use mathlib.Core.Path.{_≡_};
-ghost use Prim.Native.Nat.{_≤_};
+ghost use Prim.Native.Nat.{ℕ, _≤_};
 ghost use mathlib.Core.Bool.{true};
 ghost use lib.ListN.{length};
+ghost use lib.Ieee.{Float};
+ghost use Rattle.floats.specs.Ops.{+0};
+ghost use Rattle.floats.specs.Filled.{filledTo};
 ghost use Rattle.model.specs.Counts.{countsOk};
 ghost use Rattle.model.specs.Table.{tableSize};
+ghost use Rattle.antenna.specs.Folded.{Mirrored};
 ghost use Rattle.antenna.specs.Row.{elevationOk, rowTo, frontToBack, rowAsked, rowOf, rowAnswer, rowAfter};
 
 // The entry at azimuth 0 less that at 180, or the number of a refusal.
@@ -44,19 +49,57 @@ fn row_asked(u: f32, giso: f32, n: usize) -> Asked
     }
 }
 
-// The numbers at azimuths 0 to 359.
-fn numbers(m: Model, z6: f32, table: &[f32], u: f32, giso: f32) -> [f32; 360]
-    requires { ⌜ (countsOk m ≡ true) × (tableSize ≤ length (now table)) ⌝ }
-    ensures { λ r. ⌜ r ≡ rowTo m z6 (now (table .entry)) u giso 360 ⌝ }
+// Whether the pattern is the same on both sides of the boresight: types 1 to 4 where the sine of
+// the slew is +0, types 5 and 6.
+fn folds(iant: u32, sl: f32) -> bool
+    ensures { λ r. ⌜ (r ≡ true → (iant ≤ 6) × (iant ≤ 4 → sl ≡ +0)) ⌝ }
+{
+    if iant <= 4 {
+        return bits_of(sl) == 0;
+    }
+    iant <= 6
+}
+
+// The numbers at the first n azimuths, worked out one by one.
+fn filled(m: Model, z6: f32, table: &[f32], u: f32, giso: f32, n: u16) -> [f32; 360]
+    requires { ⌜ (countsOk m ≡ true) × (tableSize ≤ length (now table)) × (n ≤ 360) ⌝ }
+    ensures { λ r. ⌜ r ≡ rowTo m z6 (now (table .entry)) u giso n ⌝ }
 {
     let mut out = [0.0f32; 360];
     let mut v: u16 = 0;
-    while v < 360 {
+    while v < n {
         let z9 = gainrel(m, table, u, v as f32);
         out[v as usize] = decibels(z9, z6, giso);
         v += 1;
     }
     out
+}
+
+// A row by its half up to 180, folded over: each azimuth beyond has its mirror image's number, but
+// for 270, where the source's fold breaks the symmetry.
+fn folded(half: [f32; 360], west: f32) -> [f32; 360]
+    ensures { λ r. ⌜ ((f : ℕ → Float) → Mirrored f → half ≡ filledTo f 360 181 → west ≡ f 270 → r ≡ filledTo f 360 360) ⌝ }
+{
+    let mut out = half;
+    let mut v: usize = 181;
+    while v < 360 {
+        out[v] = if v == 270 { west } else { out[360 - v] };
+        v += 1;
+    }
+    out
+}
+
+// The numbers at azimuths 0 to 359.
+fn numbers(m: Model, z6: f32, table: &[f32], u: f32, giso: f32) -> [f32; 360]
+    requires { ⌜ (countsOk m ≡ true) × (tableSize ≤ length (now table)) ⌝ }
+    ensures { λ r. ⌜ r ≡ rowTo m z6 (now (table .entry)) u giso 360 ⌝ }
+{
+    if folds(m.iant, m.constants.sl) {
+        let half = filled(m, z6, table, u, giso, 181);
+        let west = decibels(gainrel(m, table, u, 270.0), z6, giso);
+        return folded(half, west);
+    }
+    filled(m, z6, table, u, giso, 360)
 }
 
 fn front_to_back(row: [f32; 360]) -> f32

@@ -1,66 +1,64 @@
 -- `antenna::row::numbers` meets its contract.
-use borrow.Author.Needs.{needs}
+use Prim.Native.Nat.{_≤_}
 use mathlib.Core.Path.{_≡_, refl}
-use native.Mathlib.Omega.{arith}
-use Prim.Native.Nat.{_≤_, _-_}
-use native.Mathlib.Numerals.{add-one}
+use mathlib.Core.List.{List}
+use borrow.Author.Needs.{needs}
+use lib.Ieee.{Float, ofBits, ofInt}
+use Rattle.floats.specs.Ops.{+0, count}
+use Rattle.model.specs.declared.record.Model.{Model}
+use Rattle.pattern.proofs.GainrelMirror.{gainRel-mirror}
+use Rattle.antenna.specs.Literals.{west}
 use Rattle.antenna.specs.Gain.{numberAt}
-use Rattle.floats.specs.Filled.{filledTo}
-use Rattle.antenna.specs.Row.{rowTo}
+use Rattle.antenna.specs.Folded.{Mirrored}
 use Rattle.antenna.proofs.row.numbers.Statement.{statement}
 use Rattle.antenna.proofs.row.numbers.Tie as tie
 
-abbrev Inv-loop : tie.InvT-loop
-Inv-loop m z6 table u giso out₀ v₀ out v = (out ≡ rowTo m z6 table u giso v) × (v ≤ 360)
+numbers-mirror : (m : Model) (z6 : Float) (t : List Float) (u giso : Float) → (m .iant ≤ 6) × (m .iant ≤ 4 → m .constants .sl ≡ +0)
+    → Mirrored (λ v. numberAt m z6 t u (count v) giso)
+unfolding numberAt
+numbers-mirror m z6 t u giso g v h a b = rw (gainRel-mirror m (g .0) (g .1) t u v h a b)
 
-abbrev μ-loop : tie.MeasureT-loop
-μ-loop m z6 table u giso out₀ v₀ out v = 360 - v
+at-270 : west ≡ count 270
+unfolding ofBits ofInt
+at-270 = refl
 
-loop-holds : tie.Need-loop-holds Inv-loop μ-loop
-unfolding filledTo
-loop-holds c = (refl, omega arith)
+folds-requires : tie.Need-folds-requires
+folds-requires c κs = search needs
 
-int-to-float-gainrel : tie.Need-int-to-float-gainrel Inv-loop μ-loop
-int-to-float-gainrel c = search needs
+filled-requires : tie.Need-filled-requires
+filled-requires c κs = search needs
 
-gainrel-requires : tie.Need-gainrel-requires Inv-loop μ-loop
-gainrel-requires c κs = (c .before .before .before .before .pre .0, c .before .before .before .before .pre .1)
+gainrel-requires : tie.Need-gainrel-requires
+gainrel-requires c κs = search needs
 
-decibels-requires : tie.Need-decibels-requires Inv-loop μ-loop
+decibels-requires : tie.Need-decibels-requires
 decibels-requires c κs = search needs
 
-mul-out : tie.Need-mul-out Inv-loop μ-loop
-mul-out c = omega arith
+folded-requires : tie.Need-folded-requires
+folded-requires c κs = search needs
 
-array-write-out : tie.Need-array-write-out Inv-loop μ-loop
-array-write-out c = omega arith
+returns : tie.Need-returns
+unfolding numberAt
+returns c =
+    let grounds = c .before .before .before .before .before .folds .ensures (c .before .before .before .before .if1 .taken) in
+    c .folded .ensures _ (numbers-mirror _ _ _ _ _ grounds) (c .before .before .before .filled .ensures)
+    (rw (c .before .decibels .ensures, c .before .before .gainrel .ensures, at-270))
 
-add-v : tie.Need-add-v Inv-loop μ-loop
-add-v c = omega arith
+filled-requires-2 : tie.Need-filled-requires-2
+filled-requires-2 c κs = search needs
 
-loop-less : tie.Need-loop-less Inv-loop μ-loop
-loop-less c = omega arith
-
-loop-again : tie.Need-loop-again Inv-loop μ-loop
-unfolding filledTo numberAt
-loop-again c = (rw (add-one, c .decibels .ensures, c .before .gainrel .ensures, c .before .before .before .before .loop .inv .0), omega arith)
-
-returns : tie.Need-returns Inv-loop μ-loop
-returns c = let e : c .before .loop .v ≡ 360 = omega arith in rw e at (c .before .loop .inv .0)
+returns-2 : tie.Need-returns-2
+returns-2 c = search needs
 
 pub numbers-spec : {M : Type 1} → statement M
 numbers-spec =
     tie.close
     (tie.spec
-    Inv-loop
-    μ-loop
-    loop-holds
-    int-to-float-gainrel
+    folds-requires
+    filled-requires
     gainrel-requires
     decibels-requires
-    mul-out
-    array-write-out
-    add-v
-    loop-less
-    loop-again
-    returns)
+    folded-requires
+    returns
+    filled-requires-2
+    returns-2)
