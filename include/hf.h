@@ -45,9 +45,9 @@ uint32_t hf_leaf(uint32_t which, uint32_t a, uint32_t b);
 uint32_t hf_maxgain(uint32_t mode, const float *floats, size_t floats_len, uint32_t *out, size_t out_len);
 
 /* Sets up the antenna, then answers each direction, a pair of elevation and azimuth in degrees; giso is the maximum gain. out, 4
- * words plus 2 for each pair: the search's readings, the peak's bits, those of its elevation and azimuth; then for each pair an
- * hf_kind and the bits of the gain in dBi (or the refusal's number). Returns 0 or set-up's refusal (2, 3, 5, 6, 7, 9; 8 where parm
- * isn't 20, directions_len is odd or out isn't 4 plus directions_len). */
+ * words plus 2 for each pair: the search's readings, at most 141, the peak's bits, those of its elevation and azimuth; then for
+ * each pair an hf_kind and the bits of the gain in dBi (or the refusal's number). Returns 0 or set-up's refusal (2, 3, 5, 6, 7, 9;
+ * 8 where parm isn't 20, directions_len is odd or out isn't 4 plus directions_len). */
 uint32_t hf_gains(const float *parm, size_t parm_len, float giso, const float *directions, size_t directions_len, uint32_t *out,
                   size_t out_len);
 

@@ -20,7 +20,7 @@ use Rattle.ground.proofs.Laws.{table-length}
 use Rattle.logperiodic.specs.Active.{Listed}
 use Rattle.logperiodic.specs.LogPeriodic.{logParm}
 use Rattle.logperiodic.proofs.Laws.{logparm-listed}
-use Rattle.antenna.specs.Limits.{slotsOk, nelOf}
+use Rattle.antenna.specs.Limits.{slotsOk, aimOk, nelOf}
 use Rattle.antenna.specs.TypeConstants.{rlambdaOf, betaOf}
 use Rattle.antenna.specs.SetUp.{designOf, noElements, elementsOf, modelOf, setUpOf, noAntenna, keptAfter, lentAfter}
 use Rattle.antenna.specs.Asked.{askedRefusal}
@@ -50,6 +50,7 @@ elevation-finite (fin s m e) h = refl
 
 module _ (p lent : List Float) {a : Antenna} {n : ℕ} (h : setUpOf p (length lent) ≡ accepted (a, n)) where
   limits : (slotsOk (jantOf (slot p 1)) p ≡ true) × (tableSize ≤ length lent) × (typeOk (jantOf (slot p 1)) ≡ true)
+      × (aimOk (jantOf (slot p 1)) p ≡ true)
   limits = accepted-limits (jantOf (slot p 1)) p (length lent) (accepted-only-when p (length lent) h .limits)
 
   pub accepted-type : typeOk (a .model .iant) ≡ true

@@ -8,3 +8,4 @@ mod NoNumber
 pub mod RowGains
 mod Granted
 pub mod Outcomes
+pub mod ReadingCount

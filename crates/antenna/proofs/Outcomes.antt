@@ -53,6 +53,10 @@ module _ (p : List Float) (size : ℕ) where
   unfolding acceptedOf
   accepted-model {a} {n} h = ap (λ (w : Antenna × ℕ). w .0 .model) (same (sym h ∙ accepted-when (accepted-only-when h)))
 
+  pub accepted-readings : {a : Antenna} {n : ℕ} → setUpOf p size ≡ accepted (a, n) → n ≡ searchOf .tally .readings
+  unfolding acceptedOf
+  accepted-readings h = ap (λ (w : Antenna × ℕ). w .1) (same (sym h ∙ accepted-when (accepted-only-when h)))
+
 -- ---- gain and row
 
 pub accepted-gain-finite : (a : Antenna) (t : List Float) (u v giso : Float) {k : Kind} {g : Float} → gainOf a t u v giso ≡ accepted (k, g) → finite g ≡ true

@@ -1,2 +1,2 @@
 -- What the proofs of the passes share.
-mod Readings
+pub mod Readings

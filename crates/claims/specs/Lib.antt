@@ -6,3 +6,4 @@ pub mod MirrorLaw
 pub mod CrossedMirror
 pub mod Exceptions
 pub mod StarredEdges
+pub mod Dearest

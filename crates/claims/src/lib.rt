@@ -23,3 +23,7 @@
 //
 // The starred edges: `starred-edges : StarredEdges`, specs/StarredEdges.antt. The single cases that
 // document 01 stars, in its order, one line each.
+//
+// Document 02, card 12, the dearest station: `dearest : Dearest`, specs/Dearest.antt. Set-up's search
+// takes at most 141 readings, and 90 exactly for an unslewed type other than 4; one station takes
+// 141, and one slewed station 140.

@@ -11,3 +11,5 @@ pub mod Finite
 pub mod Unit
 pub mod TimesOne
 pub mod TimesUnit
+pub mod Order
+pub mod Halves

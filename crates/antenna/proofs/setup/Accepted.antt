@@ -33,15 +33,19 @@ abbrev CountsIn : Constants → Type 0
 CountsIn k = (countOk (k .r2) && countOk (k .r3)) ≡ true
 
 module _ (iant : ℕ) (p : List Float) where
-  pub accepted-limits : (n : ℕ) → refusalOf iant p n ≡ 0 → (slotsOk iant p ≡ true) × (tableSize ≤ n) × (typeOk iant ≡ true)
+  pub accepted-limits : (n : ℕ) → refusalOf iant p n ≡ 0 → (slotsOk iant p ≡ true) × (tableSize ≤ n) × (typeOk iant ≡ true) × (aimOk iant p ≡ true)
   unfolding refusalOf
   accepted-limits n h =
       let h3 = next (not (allFinite p)) _ _ h .1 in
       let t = next (not (typeOk iant)) _ _ h3 in
       let h6 = next (not (bandOk iant p)) _ _ (t .1) .1 in
       let s = next (not (slotsOk iant p)) _ _ h6 in
-      let h8 = next (not (aimOk iant p)) _ _ (s .1) .1 in
-      (not-false (slotsOk iant p) (s .0), ltb-false n tableSize (next (ltb n tableSize) _ _ h8 .0), not-false (typeOk iant) (t .0))
+      let a = next (not (aimOk iant p)) _ _ (s .1) in (
+        not-false (slotsOk iant p) (s .0),
+        ltb-false n tableSize (next (ltb n tableSize) _ _ (a .1) .0),
+        not-false (typeOk iant) (t .0),
+        not-false (aimOk iant p) (a .0),
+      )
 
   pub nel-bounds : logPeriodic iant ≡ true → slotsOk iant p ≡ true → (2 ≤ nelOf p) × (nelOf p ≤ 30)
   unfolding slotsOk

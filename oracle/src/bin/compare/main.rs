@@ -22,6 +22,8 @@ mod maxgain;
 #[cfg(source)]
 mod plates;
 #[cfg(source)]
+mod readings;
+#[cfg(source)]
 mod records;
 #[cfg(source)]
 mod rows;
@@ -48,6 +50,8 @@ const CALLS: &[Call] = &[
     ("curtain", 30_000, curtains::compare),
     #[cfg(source)]
     ("gains", 100_000, gains::compare),
+    #[cfg(source)]
+    ("readings", 20_000, readings::compare),
     #[cfg(source)]
     ("row", 10_000, rows::compare),
     #[cfg(source)]
