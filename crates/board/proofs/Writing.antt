@@ -1,11 +1,15 @@
 -- Loops that write, one element a turn. Assumes nothing.
 use mathlib.Core.Path.{_≡_, refl, sym, ap, _∙_}
+use mathlib.Core.Bool.{Bool, true, false}
 use mathlib.Core.List.{List, [], _∷_, _++_, append-nil}
 use Prim.Native.Nat.{ℕ, zero, suc, _+_, _-_, _≤_, _<_}
+use native.Mathlib.Nat.{add-zero}
 use native.Mathlib.Numerals.{add-one}
 use native.Mathlib.Omega.{arith}
-use lib.ListN.{length, getD, drop, set, length-append, drop-of-length-le}
-use lib.Seq.{paste, paste-suc, drop-paste, getD-drop, drop-cons, set-at, append-snoc}
+use lib.ListN.{length, getD, drop, set, length-append, drop-of-length-le, List·getD-append}
+use lib.Dec.{ltb}
+use borrow.Author.Tests.{ltb-true, ltb-false}
+use lib.Seq.{paste, paste-suc, drop-paste, getD-drop, drop-cons, set-at, append-snoc, getD-at, getD-append-add}
 use Rattle.board.specs.Stations.{upTo}
 
 -- ---- s over the words of d from `at` on: `paste d at s i` after i turns
@@ -46,3 +50,27 @@ module _ {A : Type 0} (f : ℕ → A) where
 
   pub upTo-all : (l : List A) (n : ℕ) → n ≡ length l → upTo f n ++ drop n l ≡ upTo f n
   upTo-all l n e = ap (λ (r : List A). upTo f n ++ r) (drop-of-length-le l {i = n} (omega arith)) ∙ append-nil (upTo f n)
+
+  -- what is not written yet is as it was
+  pub upTo-rest : (l : List A) (n : ℕ) (d : A) → getD (upTo f n ++ drop n l) n d ≡ getD l n d
+  upTo-rest l n d =
+      let here : n ≡ length (upTo f n) + 0 = omega (arith, upTo-length n) in
+      ap (λ (i : ℕ). getD (upTo f n ++ drop n l) i d) here ∙ getD-append-add (upTo f n) (drop n l) 0 d ∙ (rw (add-zero n) at (getD-drop n l 0 d))
+
+  pub upTo-at : (n v : ℕ) (d : A) → v < n → getD (upTo f n) v d ≡ f v
+  unfolding upTo
+  upTo-at zero v d h = absurd (omega arith)
+  upTo-at (suc n) v d h = go (ltb v n) refl (upTo-at n v d)
+    where
+      go : (t : Bool) → ltb v n ≡ t → (v < n → getD (upTo f n) v d ≡ f v) → getD (upTo f n ++ (f n ∷ [])) v d ≡ f v
+      go true e before =
+          let low : v < length (upTo f n) = omega (arith, upTo-length n, ltb-true v n e) in
+          List·getD-append (upTo f n) (f n ∷ []) d v low ∙ before (ltb-true v n e)
+      go false e before =
+          let last : v ≡ n = omega (arith, ltb-false v n e) in
+          rw last (getD-at (upTo f n) (f n) [] d n (upTo-length n))
+
+pub upTo-same : {A : Type 0} {f g : ℕ → A} (n : ℕ) → ((v : ℕ) → v < n → f v ≡ g v) → upTo f n ≡ upTo g n
+unfolding upTo
+upTo-same zero h = refl
+upTo-same (suc n) h = rw (upTo-same n (λ v low. h v (omega arith)), h n (omega arith))

@@ -23,7 +23,8 @@ use places::slot_of;
 use refusal::join_refusal;
 use refusal::leave_refusal;
 use refusal::show_refusal;
-use strongest::strongest_at;
+use strongest::put_first;
+use strongest::raise;
 ghost use mathlib.Core.Path.{_≡_};
 ghost use mathlib.Core.Bool.{true};
 ghost use Prim.Native.Nat.{_≤_};
@@ -85,12 +86,11 @@ fn put_shown(board: &[u32], n: usize, numbers: &mut [f32], ids: &mut [u32])
     ensures { λ _. ⌜ now (numbers .exit) ≡ numbersShown (stationsTo (now (board .entry)) n) ⌝ }
     ensures { λ _. ⌜ now (ids .exit) ≡ idsShown (stationsTo (now (board .entry)) n) ⌝ }
 {
-    let mut v: usize = 0;
-    while v < 360 {
-        let best = strongest_at(board, n, v);
-        numbers[v] = best.number;
-        ids[v] = best.id;
-        v += 1;
+    put_first(board, n, numbers, ids);
+    let mut k: usize = 0;
+    while k < n {
+        raise(board, k, numbers, ids);
+        k += 1;
     }
 }
 

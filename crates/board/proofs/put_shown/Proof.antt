@@ -1,92 +1,75 @@
--- `board::put_shown` meets its contract.
+-- `board::put_shown` meets its contract: those that lead after all places are those shown.
 use mathlib.Core.Path.{_≡_, sym, ap, _∙_}
-use mathlib.Core.List.{List, _++_}
-use Prim.Native.Nat.{ℕ, _≤_, _-_}
-use lib.ListN.{length, drop, length-set}
-use lib.Ieee.{Float}
-use Rattle.board.specs.Stations.{numberAt, shown, upTo, numbersShown, idsShown}
-use Rattle.board.specs.Words.{stationsTo}
-use Rattle.board.specs.declared.strongest.Entry.{Entry}
-use Rattle.board.proofs.Writing.{upTo-none, upTo-more, upTo-all}
+use Prim.Native.Nat.{_≤_, _-_}
+use native.Mathlib.Numerals.{add-one}
+use lib.ListN.{length}
+use Rattle.board.specs.Words.{stationAt, stationsTo}
+use Rattle.board.specs.Steps.{firstIn, numbersLed, idsLed}
+use Rattle.board.proofs.Shown.{numbers-length, ids-length, numbers-raised, ids-raised, numbers-last, ids-last}
 use native.Mathlib.Omega.{arith}
 use Rattle.board.proofs.put_shown.Statement.{statement}
 use Rattle.board.proofs.put_shown.Tie as tie
 
--- what the first n places show at azimuth v
-abbrev numberOf : List ℕ → ℕ → ℕ → Float
-numberOf words n v = numberAt v (shown v (stationsTo words n))
-
-abbrev idOf : List ℕ → ℕ → ℕ → ℕ
-idOf words n v = shown v (stationsTo words n) .id
-
 abbrev Inv-loop : tie.InvT-loop
-Inv-loop board n numbers₀ ids₀ v₀ numbers ids v =
-    (numbers ≡ upTo (numberOf board n) v ++ drop v numbers₀) × (ids ≡ upTo (idOf board n) v ++ drop v ids₀) × (length numbers ≡ 360) × (length ids ≡ 360) × (v ≤ 360)
+Inv-loop board n numbers₀ ids₀ k₀ numbers ids k =
+    (numbers ≡ numbersLed (firstIn board n) (stationsTo board k)) × (ids ≡ idsLed (firstIn board n) (stationsTo board k)) × (k ≤ n)
 
 abbrev μ-loop : tie.MeasureT-loop
-μ-loop board n numbers₀ ids₀ v₀ numbers ids v = 360 - v
+μ-loop board n numbers₀ ids₀ k₀ numbers ids k = n - k
+
+put-first-requires : tie.Need-put-first-requires Inv-loop μ-loop
+put-first-requires c κs =
+    let start = c .before .before .before .before .before in
+    (start .pre .0, start .pre .3, start .pre .4)
 
 loop-holds : tie.Need-loop-holds Inv-loop μ-loop
+unfolding stationsTo
 loop-holds c =
-    let start = c .before .before .before in
-    let a = start .args in (
-      upTo-none (numberOf (a .board .now) (a .n)) (a .numbers .now),
-      upTo-none (idOf (a .board .now) (a .n)) (a .ids .now),
-      start .pre .3,
-      start .pre .4,
-      omega arith,
-    )
+    let put = c .before .before .before .before .put-first .ensures in
+    (put .0, put .1, omega arith)
 
-strongest-at-requires : tie.Need-strongest-at-requires Inv-loop μ-loop
-strongest-at-requires c κs =
-    let start = c .before .before .before .before .before in
-    (start .pre .0, start .pre .1, omega arith, start .pre .2)
+raise-requires : tie.Need-raise-requires Inv-loop μ-loop
+raise-requires c κs =
+    let head = c .before .before .before in
+    let start = head .before .before .before .before .before .before .before .before .before .before .before in
+    let inv = head .loop .inv in
+    (start .pre .0, omega arith, ap length (inv .0) ∙ numbers-length _ _, ap length (inv .1) ∙ ids-length _ _)
 
-mul-numbers : tie.Need-mul-numbers Inv-loop μ-loop
-mul-numbers c = omega arith
-
-slice-write-numbers : tie.Need-slice-write-numbers Inv-loop μ-loop
-slice-write-numbers c = omega arith
-
-mul-ids : tie.Need-mul-ids Inv-loop μ-loop
-mul-ids c = omega arith
-
-slice-write-ids : tie.Need-slice-write-ids Inv-loop μ-loop
-slice-write-ids c = omega arith
-
-add-v : tie.Need-add-v Inv-loop μ-loop
-add-v c = omega arith
+add-k : tie.Need-add-k Inv-loop μ-loop
+add-k c = omega arith
 
 loop-less : tie.Need-loop-less Inv-loop μ-loop
 loop-less c = omega arith
 
 loop-again : tie.Need-loop-again Inv-loop μ-loop
+unfolding stationsTo
 loop-again c =
-    let a = c .before .before .before .before .before .before .args in
-    let head = c .before .before .loop in
-    let best = c .strongest-at .ensures in (
-      rw (head .inv .0) (upTo-more (numberOf (a .board .now) (a .n)) (a .numbers .now) (head .v) (omega arith) (ap (λ (e : Entry). e .number) best)),
-      rw (head .inv .1) (upTo-more (idOf (a .board .now) (a .n)) (a .ids .now) (head .v) (omega arith) (ap (λ (e : Entry). e .id) best)),
-      rw length-set (head .inv .2),
-      rw length-set (head .inv .3),
+    let turn = c .before .before .before .before in
+    let head = turn .before .before .before .before in
+    let a = head .before .before .before .before .before .before .before .before .before .before .before .args in
+    let inv = head .loop .inv in
+    let first = firstIn (a .board .now) (a .n) in
+    let s = stationAt (a .board .now) (head .loop .k) in
+    let before = stationsTo (a .board .now) (head .loop .k) in (
+      rw (turn .raise .ensures .0, inv .0, inv .1, add-one) (numbers-raised first s before),
+      rw (turn .raise .ensures .1, inv .0, inv .1, add-one) (ids-raised first s before),
       omega arith,
     )
 
 same-length : tie.Need-same-length Inv-loop μ-loop
-same-length c = c .before .loop .inv .2 ∙ sym (c .before .before .before .before .before .pre .3)
+same-length c = ap length (c .before .loop .inv .0) ∙ numbers-length _ _ ∙ sym (c .before .before .before .before .before .before .before .before .before .before .before .before .pre .3)
 
 same-length-2 : tie.Need-same-length-2 Inv-loop μ-loop
-same-length-2 c = c .before .loop .inv .3 ∙ sym (c .before .before .before .before .before .pre .4)
+same-length-2 c = ap length (c .before .loop .inv .1) ∙ ids-length _ _ ∙ sym (c .before .before .before .before .before .before .before .before .before .before .before .before .pre .4)
 
 returns : tie.Need-returns Inv-loop μ-loop
-unfolding numbersShown idsShown
 returns c =
-    let a = c .before .before .before .before .before .args in
-    let number = numberOf (a .board .now) (a .n) in
-    let id = idOf (a .board .now) (a .n) in
-    let e : c .before .loop .v ≡ 360 = omega arith in (
-      c .before .loop .inv .0 ∙ upTo-all number (a .numbers .now) (c .before .loop .v) (omega arith) ∙ ap (upTo number) e,
-      c .before .loop .inv .1 ∙ upTo-all id (a .ids .now) (c .before .loop .v) (omega arith) ∙ ap (upTo id) e,
+    let start = c .before .before .before .before .before .before .before .before .before .before .before .before in
+    let words = start .args .board .now in
+    let pre = start .pre in
+    let e : c .before .loop .k ≡ start .args .n = omega arith in (
+      (rw e at (c .before .loop .inv .0)) ∙ numbers-last words (pre .0) (start .args .n) (pre .1) (pre .2),
+      (rw e at (c .before .loop .inv .1)) ∙ ids-last words (pre .0) (start .args .n) (pre .1) (pre .2),
     )
 
 pub put-shown-spec : {M : Type 1} → statement M
@@ -95,13 +78,10 @@ put-shown-spec =
     (tie.spec
     Inv-loop
     μ-loop
+    put-first-requires
     loop-holds
-    strongest-at-requires
-    mul-numbers
-    slice-write-numbers
-    mul-ids
-    slice-write-ids
-    add-v
+    raise-requires
+    add-k
     loop-less
     loop-again
     same-length
