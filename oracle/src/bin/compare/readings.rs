@@ -57,6 +57,6 @@ pub fn compare(count: u64) -> Vec<Comparison> {
     vec![
         stated("oracle", reference::gains),
         stated("hf_gains", service::gains),
-        run("readings of set-up", 22, count, one).owing(&["type 4, 141 readings", "type 2 slewed, 140 readings"]),
+        run("readings of set-up", 22, count, one).owing(&["type 4, 141 readings", "type 1 slewed, 140 readings"]),
     ]
 }
