@@ -1,14 +1,21 @@
-/* The gain of HF antennas (CCIR types 1 to 9 and the NTIA curtain): the static library `service`, which `rt staticlib service`
- * writes to target/staticlib/libservice.a. Link it with -lm.
+/* The gain of HF antennas (CCIR types 1 to 9 and the NTIA curtain): the library `service`. `./install PREFIX` puts it where a compiler
+ * finds it (pkg-config's name is `hf`); `rt staticlib service` writes target/staticlib/libservice.a alone. Link it with -lm.
  *
  * Every call is total. What is lent (a pointer, then the number of its elements) must be readable, and writable where it isn't
  * const; two lent pieces of one call must not overlap. That is all that a caller owes. A call keeps no state and no pointer, so
- * threads may call at once; hf_gains, hf_row and hf_plate take up to 180 kB of the stack (measured on x86-64).
+ * threads may call at once. hf_gains and hf_plate take up to 180 kB of the stack, hf_setup 130, the others under 32 (measured on
+ * x86-64).
  *
- * Refusals: 1 record, 2 value, 3 type, 4 mode, 5 band, 6 count, 7 aim, 8 space, 9 pattern, 10 level, 11 calendar, 12 row, 13 gap,
- * 14 overlap, 16 call, 17 full; the README says what each means. A refusal leaves all that is lent as it was (hf_row has one
- * exception). "bits" are a 32-bit float's; a NaN is 7FC00000.
- * A `parm` has an antenna's 20 parameters. */
+ * A refusal leaves all that is lent as it was. "bits" are a 32-bit float's; a NaN is 7FC00000.
+ *
+ * Angles are in degrees, and azimuth 0 is where the antenna points. hf_gains and hf_gain take the elevation first, the curtain's calls
+ * the azimuth. Every finite angle is answered, as the source answers it:
+ * - hf_gains and hf_gain: give azimuths from 0 to 360. Others aren't taken round: a negative one, and one above 540, counts as the
+ *   fourth quadrant (the type 1 of examples/ at elevation 12 has 15.28 dBi at 350 and -8.64 at -10). The elevation is cut to a whole
+ *   degree, 0 to 90, the azimuth to one of its quadrant: in the fourth it is 360 less the azimuth that is cut, so 350.5 is answered
+ *   as 351. A table by truncated degrees isn't equal to asking.
+ * - The curtain: azimuths from -360 to 360, with their fractions.
+ * - A plate row: its elevation is a whole degree from 0 to 90. */
 #ifndef HF_H
 #define HF_H
 
@@ -19,95 +26,160 @@
 extern "C" {
 #endif
 
-/* What a gain is; the second word beside it has the number's bits, or the refusal's number. */
-enum hf_kind { HF_LEVEL = 0, HF_FLOOR = 1, HF_SILENCE = 2, HF_REFUSED = 3 };
+/* Why a call refuses; the README says more of each. The lowest number that holds is told, unless a call says otherwise. */
+enum hf_refusal {
+  HF_REFUSAL_RECORD = 1,    /* a station record: its length, edition or spare bits */
+  HF_REFUSAL_VALUE = 2,     /* a float that isn't finite */
+  HF_REFUSAL_TYPE = 3,      /* a type that isn't 1 to 9 */
+  HF_REFUSAL_MODE = 4,      /* a mode of the maximum gain that there isn't */
+  HF_REFUSAL_BAND = 5,      /* operating or design MHz not at least 1 and below 31 */
+  HF_REFUSAL_COUNT = 6,     /* dipoles or elements; counts of an antenna record that no set-up leaves */
+  HF_REFUSAL_AIM = 7,       /* a slew, a start direction, a row's elevation */
+  HF_REFUSAL_SPACE = 8,     /* what is lent hasn't the right length, or words that no run could leave */
+  HF_REFUSAL_PATTERN = 9,   /* a gain met in the search isn't finite */
+  HF_REFUSAL_LEVEL = 10,    /* the answer isn't finite */
+  HF_REFUSAL_CALENDAR = 11, /* a date or a minute of the day */
+  HF_REFUSAL_ROW = 12,      /* a row of a band book, or a kHz outside its span */
+  HF_REFUSAL_GAP = 13,      /* a kHz that no row covers */
+  HF_REFUSAL_OVERLAP = 14,  /* a kHz that several rows cover */
+  HF_REFUSAL_CALL = 16,     /* the board: an id that isn't one, joining while on, leaving while off */
+  HF_REFUSAL_FULL = 17      /* the board: sixteen are on */
+};
 
-/* The kind of an answer of 64 bits, beside 0 and HF_REFUSED, that is a refusal with a place: its lower half is the refusal's number
- * times 65,536, plus the place. */
-enum { HF_REFUSED_AT = 4 };
+/* What an answer is. An answer of 64 bits has its kind in the upper half; a gain of hf_gains has it in a word of its own. Kinds 0 to 2
+ * come with the number's bits (or another value, where the call says so), 3 with the refusal, 4 with the refusal times 65,536 plus a
+ * place. */
+enum hf_kind { HF_LEVEL = 0, HF_FLOOR = 1, HF_SILENCE = 2, HF_REFUSED = 3, HF_REFUSED_AT = 4 };
 
-/* The most rows of a band book. */
-enum { HF_BOOK_ROWS = 64 };
+/* The parts of an answer of 64 bits: its kind and its value; of kind HF_REFUSED_AT the refusal and the place. */
+#define HF_KIND(answer) ((uint32_t)((answer) >> 32))
+#define HF_WORD(answer) ((uint32_t)(answer))
+#define HF_PLACED(answer) (HF_WORD(answer) >> 16)
+#define HF_PLACE(answer) (HF_WORD(answer) & 65535)
+
+/* How many elements are lent; a call that is given another number of them answers HF_REFUSAL_SPACE, unless it says otherwise. */
+enum hf_size {
+  HF_PARM = 20,           /* floats: an antenna's parameters, by docs/STATION.md */
+  HF_TABLE = 11284,       /* floats: set-up's table, at least */
+  HF_ANTENNA = 997,       /* words: the antenna record that set-up leaves */
+  HF_FOUND = 4,           /* words: what the search found */
+  HF_ROW = 360,           /* floats: a plate row, azimuths 0 to 359 */
+  HF_MAXGAIN_FLOATS = 58, /* parm, gainmax (2 rows of 3), gainmaxb (30), operating MHz, design MHz */
+  HF_MAXGAIN_OUT = 21,    /* words: the gain, parm */
+  HF_RECORD = 225,        /* bytes: a station record */
+  HF_STATION = 57,        /* words: mode, parm, gainmax, gainmaxb */
+  HF_PLATE_INPUT = 237,   /* bytes: a record, MHz, design MHz, elevation */
+  HF_PLATE_TEXT = 8192,   /* bytes: the program's text, at least */
+  HF_BOOK_ROWS = 64,      /* rows of a band book, at most; a row is three words */
+  HF_TIME = 4,            /* words: year, month, day, minute of the day */
+  HF_LEVELS_STATE = 66,   /* words: a ring of 64 levels, how many it holds, the next place */
+  HF_LEVELS_SHOWN = 3,    /* words: how many, the greatest, the least */
+  HF_BOARD = 5777         /* words: how many are on, sixteen places of an id and a row */
+};
 
 /* The seasons of frequency sheets. */
 enum hf_seasons { HF_SEASON_A = 0, HF_SEASON_B = 1 };
 
-/* The words of a time: year, month, day, minute of the day. */
-#define HF_TIME 4
+/* In place of a curtain's factor: find it by integration. */
+#define HF_INTEGRATE (-99999.0f)
 
 /* An elementary function, bits in and bits out: 0 sin, 1 cos, 2 ln, 3 log10, 4 powf(a, b), 5 atan, 6 sqrt. Returns a NaN outside
  * the function's domain. b counts for powf alone. */
 uint32_t hf_leaf(uint32_t which, uint32_t a, uint32_t b);
 
-/* The maximum gain. mode: 0 as parm has it, 1 by the ratio of operating to design MHz, 2 by MHz. floats, 58: parm, gainmax (2 rows
- * of 3), gainmaxb (30), operating MHz, design MHz. out, 21 words: the gain's bits, then the bits of parm as set-up should be given
- * it. Returns 0 or the refusal (2, 3, 4, 5, 10; 8 where floats isn't 58 or out isn't 21). */
+/* The maximum gain. mode: 0 as parm has it, 1 by the ratio of operating to design MHz, 2 by MHz. floats, HF_MAXGAIN_FLOATS: parm,
+ * gainmax (2 rows of 3), gainmaxb (30), operating MHz, design MHz. out, HF_MAXGAIN_OUT words: the gain's bits, then the bits of parm
+ * as set-up should be given it. Returns 0 or the refusal (2, 3, 4, 5, 10; 8 first where floats or out hasn't its size). */
 uint32_t hf_maxgain(uint32_t mode, const float *floats, size_t floats_len, uint32_t *out, size_t out_len);
 
-/* Sets up the antenna, then answers each direction, a pair of elevation and azimuth in degrees; giso is the maximum gain. out, 4
- * words plus 2 for each pair: the search's readings, at most 141, the peak's bits, those of its elevation and azimuth; then for
- * each pair an hf_kind and the bits of the gain in dBi (or the refusal's number). Returns 0 or set-up's refusal (2, 3, 5, 6, 7, 9;
- * 8 where parm isn't 20, directions_len is odd or out isn't 4 plus directions_len). */
+/* Sets up the antenna, then answers each direction, a pair of elevation and azimuth; giso is the maximum gain. out, HF_FOUND words
+ * as hf_setup has them, then for each pair an hf_kind and the bits of the gain in dBi (or the refusal). Returns 0 or set-up's refusal
+ * (2, 3, 5, 6, 7, 9; 8 first where parm isn't HF_PARM, directions_len is odd or out isn't HF_FOUND plus directions_len). */
 uint32_t hf_gains(const float *parm, size_t parm_len, float giso, const float *directions, size_t directions_len, uint32_t *out,
                   size_t out_len);
 
-/* Sets up the antenna into the lent table (at least 11,284 floats), then writes the gains of azimuths 0 to 359 at a whole elevation
- * 0 to 90 into row (360 floats). out, 5 words: readings, bits of the peak, its elevation and azimuth, and of front-to-back. Returns
- * 0; set-up's refusal, with nothing written; or 256 plus the row's refusal (2, 7, 8, 10), with the table and the first 4 words of
- * out written and the row as it was. 8 first where parm isn't 20 or out isn't 5. */
-uint32_t hf_row(const float *parm, size_t parm_len, float *table, size_t table_len, float giso, float elevation, float *row,
-                size_t row_len, uint32_t *out, size_t out_len);
+/* Sets up the antenna once, for hf_gain and hf_plate_row: fills the lent table (at least HF_TABLE floats; those past them stay) and
+ * the lent antenna record (HF_ANTENNA words). out, HF_FOUND words: the search's readings, at most 141, and the bits of the peak, its
+ * elevation and azimuth; a peak of 0 is a silent antenna. Returns 0 or the refusal (2, 3, 5, 6, 7, 8, 9); 8 first where parm, antenna
+ * or out hasn't its size. */
+uint32_t hf_setup(const float *parm, size_t parm_len, float *table, size_t table_len, uint32_t *antenna, size_t antenna_len,
+                  uint32_t *out, size_t out_len);
 
-/* The gain of a curtain, whose 20 parameters have places of their own; factor is its normalising factor, or -99999 to find it by
- * integration. Returns an hf_kind (HF_LEVEL or HF_REFUSED) times 2^32 plus the bits or the refusal (2, 5, 7, 10; 8 where parm
- * isn't 20). */
+/* The gain at an elevation and an azimuth, of an antenna record and its table; giso is the maximum gain. Any words are answered or
+ * refused; that the table is this record's isn't noticed. Returns an hf_kind and the bits of the gain in dBi, or the refusal (2, 3, 6,
+ * 8, 10; 8 first where antenna isn't HF_ANTENNA). */
+uint64_t hf_gain(const uint32_t *antenna, size_t antenna_len, const float *table, size_t table_len, float elevation, float azimuth,
+                 float giso);
+
+/* Writes the gains of azimuths 0 to 359 at a whole elevation 0 to 90 into row (HF_ROW floats), of an antenna record and its table. Of
+ * what kind they are: all HF_SILENCE where the record's peak (hf_setup's out) is 0; else HF_FLOOR where the number is -30 and
+ * HF_LEVEL where it is more. Returns kind 0 and the bits of front-to-back, or HF_REFUSED and the refusal (2, 3, 6, 7, 8, 10; 8 first
+ * where antenna isn't HF_ANTENNA), with the row as it was. */
+uint64_t hf_plate_row(const uint32_t *antenna, size_t antenna_len, const float *table, size_t table_len, float elevation, float giso,
+                      float *row, size_t row_len);
+
+/* The gain of a curtain, whose 20 parameters have places of their own; factor is its normalising factor, or HF_INTEGRATE to find
+ * it by integration, some 3 ms. Returns HF_LEVEL and the bits of the level in dBi, which has no floor, or HF_REFUSED and the refusal
+ * (2, 5, 7, 10; 8 first where parm isn't HF_PARM). */
 uint64_t hf_curtain(const float *parm, size_t parm_len, float azimuth, float elevation, float factor);
 
-/* A station record of 225 bytes into 57 words: the mode, then the bits of parm (20), gainmax (6) and gainmaxb (30). Returns 0 or
- * the refusal (1, 2; 8 where words isn't 57). */
+/* The factor that a curtain's integral finds, some 3 ms. Asked with it, hf_curtain answers the bits that it answers with HF_INTEGRATE,
+ * in every direction. Returns kind 0 and the factor's bits, or HF_REFUSED and the refusal: 2, 5, 7 of the station; 10 where the factor
+ * isn't finite (an integral of 0, as of a curtain without bays; hf_curtain with HF_INTEGRATE still answers -1000 where the pattern is
+ * 0); 8 first where parm isn't HF_PARM. */
+uint64_t hf_curtain_factor(const float *parm, size_t parm_len);
+
+/* Which slot of parm set-up's refusal is about: HF_REFUSED_AT with the refusal (2, 3, 5, 6, 7) and the slot, 0 to 19: the lowest
+ * number, and then the lowest slot that breaks it. 0 where no slot breaks a limit; set-up may still refuse with 8 or 9. HF_REFUSED and
+ * 8 where parm isn't HF_PARM. docs/STATION.md has the slots by type. */
+uint64_t hf_why(const float *parm, size_t parm_len);
+
+/* The same of a curtain's limits (2, 5, 7). */
+uint64_t hf_curtain_why(const float *parm, size_t parm_len);
+
+/* A station record of HF_RECORD bytes into HF_STATION words: the mode, then the bits of parm (20), gainmax (6) and gainmaxb (30).
+ * Returns 0 or the refusal (1, 2; 8 first where words isn't HF_STATION). */
 uint32_t hf_read(const uint8_t *record, size_t record_len, uint32_t *words, size_t words_len);
 
-/* The same words into a record of 225 bytes. Returns 0 or the refusal (2, 4, 8). */
+/* The same words into a record of HF_RECORD bytes. Returns 0 or the refusal (2, 4, 8). */
 uint32_t hf_write(const uint32_t *words, size_t words_len, uint8_t *record, size_t record_len);
 
-/* The program `plate`: from its whole input (237 bytes) to its whole text. Returns the text's length; 0 with nothing written where
- * text is under 8,192 bytes. A refusal is a text: "refused 6\n". */
+/* The program `plate`: from its whole input (HF_PLATE_INPUT bytes) to its whole text. Returns the text's length; 0 with nothing
+ * written where text is under HF_PLATE_TEXT bytes. A refusal is a text: "refused 6\n". */
 size_t hf_plate(const uint8_t *input, size_t input_len, uint8_t *text, size_t text_len);
 
 /* A band book: rows of low kHz, high kHz (not included) and station id, three words each, in any order. A good book has at most
  * HF_BOOK_ROWS rows and covers every whole kHz from 2,000 up to, not including, 30,000 just once. Returns 0 for a good book; or
- * HF_REFUSED_AT times 2^32, plus the refusal times 65,536, plus the place: 12 with the first bad row, counted from 0 (low not below
+ * HF_REFUSED_AT with the refusal and its place: 12 with the first bad row, counted from 0 (low not below
  * high, low under 2,000, high over 30,000, an id that isn't 1 to 65,535, a 65th row), else 13 (no row covers it) or 14 (several do)
- * with the lowest bad kHz; HF_REFUSED times 2^32 plus 8 first of all where rows_len isn't a multiple of 3. */
+ * with the lowest bad kHz; HF_REFUSED and 8 first of all where rows_len isn't a multiple of 3. */
 uint64_t hf_book(const uint32_t *rows, size_t rows_len);
 
 /* The station for a kHz. Returns the id of the one row that covers it; what hf_book returns where the book isn't good; or else
- * HF_REFUSED times 2^32 plus 12 where the kHz isn't 2,000 to 29,999. The book is judged at each call: some 7 microseconds for 64
+ * HF_REFUSED and 12 where the kHz isn't 2,000 to 29,999. The book is judged at each call: some 7 microseconds for 64
  * rows. */
 uint64_t hf_station_for(const uint32_t *rows, size_t rows_len, uint32_t khz);
 
 /* The season at a time in UTC: a year from 2000 to 2099, a month from 1, a day from 1, a minute of the day from 0 to 1439. A runs
  * from 01:00 on the last Sunday of March, B from 01:00 on the last Sunday of October. Returns HF_SEASON_A or HF_SEASON_B, or
- * HF_REFUSED times 2^32 plus 11 for a date outside those years or not in its month, or a minute above 1439. */
+ * HF_REFUSED and 11 for a date outside those years or not in its month, or a minute above 1439. */
 uint64_t hf_season(uint32_t year, uint32_t month, uint32_t day, uint32_t minute);
 
 /* The next change of season, always later than the time given, into out (HF_TIME words). Returns 1 with out written; 0 where there
- * is none, from 25 October 2099, 01:00, on; or HF_REFUSED times 2^32 plus 11 as in hf_season, plus 8 first where out isn't HF_TIME
+ * is none, from 25 October 2099, 01:00, on; or HF_REFUSED and 11 as in hf_season, or 8 first where out isn't HF_TIME
  * words. */
 uint64_t hf_next_season(uint32_t year, uint32_t month, uint32_t day, uint32_t minute, uint32_t *out, size_t out_len);
 
 /* Whether a service is open at a minute of the day: it is from its first minute on, and no longer at its end; where the end comes
- * before the first it runs past midnight, and with both equal all day. Returns 1 for open, 0 for shut, or HF_REFUSED times 2^32
- * plus 11 where one of the three is above 1439. */
+ * before the first it runs past midnight, and with both equal all day. Returns 1 for open, 0 for shut, or HF_REFUSED and
+ * 11 where one of the three is above 1439. */
 uint64_t hf_open(uint32_t first, uint32_t end, uint32_t minute);
 
-/* The last 64 field strengths of a run. The words of a state and of what is shown: */
-enum { HF_LEVELS_STATE = 66, HF_LEVELS_SHOWN = 3 };
-
-/* One level more. state is the caller's to keep: all 0 at the start, afterwards as the last record left it (a ring of 64 levels'
- * bits, how many it holds, the next place 0 to 63). out: how many of the last 64 levels there are, then the bits of the greatest
- * and of the least; where +0 and -0 tie, those of the one received earlier. Returns 0 or the refusal: 8 where out isn't 3; 2 for a
- * level that isn't finite, which doesn't count; 8 where state isn't 66 or has words that no run could leave. */
+/* One level more for the last 64 field strengths of a run. state is the caller's to keep: all 0 at the start, afterwards as the last
+ * record left it (a ring of 64 levels' bits, how many it holds, the next place 0 to 63). out: how many of the last 64 levels there
+ * are, then the bits of the greatest and of the least; where +0 and -0 tie, those of the one received earlier. Returns 0 or the
+ * refusal: 8 where out isn't HF_LEVELS_SHOWN; 2 for a level that isn't finite, which doesn't count; 8 where state isn't
+ * HF_LEVELS_STATE or has words that no run could leave. */
 uint32_t hf_levels_record(uint32_t *state, size_t state_len, float level, uint32_t *out, size_t out_len);
 
 /* The same without a level; out is 0, 0, 0 where none was received. Returns 0 or 8. */
@@ -117,13 +189,12 @@ uint32_t hf_levels(const uint32_t *state, size_t state_len, uint32_t *out, size_
  * words that the caller keeps: how many are on, then sixteen places of 361 words, an id and the bits of its row, the first to join
  * first; a free place is all 0. The calls on it return 8 where board isn't HF_BOARD words or they are words that no run of
  * hf_board_empty, hf_board_join and hf_board_leave leaves. */
-#define HF_BOARD 5777
 
 /* Nobody is on. Returns 0, or 8 where board isn't HF_BOARD words; any words will do. */
 uint32_t hf_board_empty(uint32_t *board, size_t board_len);
 
 /* A station comes on the air with its id, 1 to 65,535, and its plate row of 360 finite numbers. Returns 0 or the refusal, tested in
- * this order: 2; 8, also where row isn't 360; 16 another id, or one that is on; 17 sixteen are on. */
+ * this order: 2; 8, also where row isn't HF_ROW; 16 another id, or one that is on; 17 sixteen are on. */
 uint32_t hf_board_join(uint32_t *board, size_t board_len, uint32_t id, const float *row, size_t row_len);
 
 /* The station of this id goes off the air, and its place is free. Returns 0 or the refusal (8; 16 where it isn't on). */
@@ -131,7 +202,7 @@ uint32_t hf_board_leave(uint32_t *board, size_t board_len, uint32_t id);
 
 /* The greatest number at each azimuth of those on, also below -30, and the id that has it, the lowest among equals (+0 and -0 are
  * equal; the number has the bits of the station shown); -30 and 0 where nobody is on. Returns 0, or 8, also where numbers or ids
- * isn't 360. */
+ * isn't HF_ROW. */
 uint32_t hf_board_show(const uint32_t *board, size_t board_len, float *numbers, size_t numbers_len, uint32_t *ids, size_t ids_len);
 
 #ifdef __cplusplus

@@ -37,8 +37,8 @@ fn source_file(root: &Path) -> Option<PathBuf> {
     names.iter().map(|name| folder.join(name)).find(|file| file.exists())
 }
 
-/// All that is changed: the elementary methods become document 01's rules, the search's readings are told to `met`, and the file's
-/// inner attributes, which an included file can't have, go.
+/// All that is changed: the elementary methods become document 01's rules, the search's readings are told to `met`, the curtain's
+/// factor to `integrated`, and the file's inner attributes, which an included file can't have, go.
 fn edited(text: String) -> String {
     let mut text = text.replace("//!", "//");
     text = replaced(text, "#![allow(", "#[allow(", 1);
@@ -48,6 +48,7 @@ fn edited(text: String) -> String {
     for (name, times) in methods {
         text = replaced(text, &format!(".{name}("), &format!(".rule_{name}("), times);
     }
+    text = replaced(text, "4.0 * PI / dbltrap(&ant)", "super::super::integrated(4.0 * PI / dbltrap(&ant))", 1);
     let (search, end) = (text.find("fn azmax(").unwrap(), text.find("pub fn ccirgain(").unwrap());
     let told = replaced(text[search..end].to_string(), "self.gainrel(u, v)", "super::met(self.gainrel(u, v))", 3);
     format!("{}{told}{}", &text[..search], &text[end..])

@@ -95,7 +95,7 @@ pub const CALLS: &[Call] = calls! {
     read(record: Bytes, words: LentWords)
     write(words: Words, record: LentBytes)
     gains(parm: Floats, giso: Float, directions: Floats, out: LentWords)
-    row(parm: Floats, table: LentFloats, giso: Float, elevation: Float, row: LentFloats, out: LentWords)
+    setup(parm: Floats, table: LentFloats, antenna: LentWords, out: LentWords)
     plate(input: Bytes, text: LentBytes)
     book(rows: Words)
     station_for(rows: Words, khz: Word)
@@ -105,4 +105,9 @@ pub const CALLS: &[Call] = calls! {
     levels_record(state: Words, level: Float, left: LentWords, out: LentWords)
     levels(state: Words, out: LentWords)
     board(calls: Words, rows: Floats, words: LentWords, numbers: LentFloats, ids: LentWords)
+    gain(parm: Floats, changes: Words, asked: Floats, table: LentFloats, antenna: LentWords)
+    plate_row(parm: Floats, changes: Words, asked: Floats, table: LentFloats, antenna: LentWords, row: LentFloats)
+    why(parm: Floats)
+    curtain_why(parm: Floats)
+    curtain_factor(parm: Floats)
 };

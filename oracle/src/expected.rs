@@ -1,7 +1,7 @@
 //! What document 01 expects of each call: the source's answer, and before it the refusals, lowest number first.
 use super::source::antenna::AntennaFile;
 use super::source::ccir::{antinit2, curtain, setmaxgain, CcirAntenna};
-use super::source::take_readings;
+use super::source::{take_factor, take_readings};
 
 pub type Refusal = u32;
 pub type Parm = [f32; 20];
@@ -97,14 +97,29 @@ pub fn maxgain(given: &Gains) -> Result<(f32, Parm), Refusal> {
     Ok((gain, parm))
 }
 
+/// The curtain's limits besides VALUE.
+fn curtain_limits(parm: &Parm) -> Result<(), Refusal> {
+    refuse_if(outside_band(parm[4]) || outside_band(parm[7]), BAND)?;
+    refuse_if(outside(parm[14], -90.0, 90.0), AIM)
+}
+
 /// `curtain::gain`: a level.
 pub fn curtain_gain(parm: &Parm, azimuth: f32, elevation: f32, factor: f32) -> Result<f32, Refusal> {
     refuse_if(any_not_finite(parm) || any_not_finite(&[azimuth, elevation, factor]), VALUE)?;
-    refuse_if(outside_band(parm[4]) || outside_band(parm[7]), BAND)?;
-    refuse_if(outside(parm[14], -90.0, 90.0), AIM)?;
+    curtain_limits(parm)?;
     let gain = curtain::gain(parm, azimuth, elevation, factor);
     refuse_if(!gain.is_finite(), LEVEL)?;
     Ok(gain)
+}
+
+/// The factor that the curtain's integral finds, whatever the direction.
+pub fn curtain_factor(parm: &Parm) -> Result<f32, Refusal> {
+    refuse_if(any_not_finite(parm), VALUE)?;
+    curtain_limits(parm)?;
+    curtain::gain(parm, 0.0, 0.0, -99_999.0);
+    let factor = take_factor();
+    refuse_if(!factor.is_finite(), LEVEL)?;
+    Ok(factor)
 }
 
 /// An accepted set-up.
@@ -118,6 +133,11 @@ impl Antenna {
     pub fn words(&self) -> [u32; 4] {
         let r = &self.record;
         [self.count, r.z6.to_bits(), r.umax.to_bits(), r.vmax.to_bits()]
+    }
+
+    /// The antenna record's words.
+    pub fn record(&self) -> Vec<u32> {
+        self.record.words()
     }
 
     /// Writes the first 11,284 floats of a lent table.
@@ -196,15 +216,11 @@ impl Gain {
     }
 }
 
-/// `ccirgain`, of an antenna that set-up left: types, counts and space are right.
-pub fn gain(antenna: &Antenna, elevation: f32, azimuth: f32, giso: f32) -> Gain {
-    if any_not_finite(&[elevation, azimuth, giso]) {
-        return Gain::Refused(VALUE);
-    }
-    let x = antenna.record.ccirgain(elevation, azimuth, giso);
+/// The number with its case, beside the peak.
+fn graded(record: &CcirAntenna, x: f32) -> Gain {
     if !x.is_finite() {
         Gain::Refused(LEVEL)
-    } else if antenna.record.z6 == 0.0 {
+    } else if record.z6 == 0.0 {
         Gain::Silence(x)
     } else if x == -30.0 {
         Gain::Floor(x)
@@ -213,13 +229,64 @@ pub fn gain(antenna: &Antenna, elevation: f32, azimuth: f32, giso: f32) -> Gain 
     }
 }
 
-/// The plate row at one elevation, into `room` floats: the 360 numbers and front-to-back.
-pub fn row(antenna: &Antenna, elevation: f32, giso: f32, room: usize) -> Result<([f32; ROW], f32), Refusal> {
-    refuse_if(any_not_finite(&[elevation, giso]), VALUE)?;
-    refuse_if(outside(elevation, 0.0, 90.0) || elevation.fract() != 0.0, AIM)?;
-    refuse_if(room != ROW, SPACE)?;
-    let numbers: [f32; ROW] = std::array::from_fn(|v| antenna.record.ccirgain(elevation, v as f32, giso));
+/// `ccirgain`, of an antenna that set-up left: types, counts and space are right.
+pub fn gain(antenna: &Antenna, elevation: f32, azimuth: f32, giso: f32) -> Gain {
+    if any_not_finite(&[elevation, azimuth, giso]) {
+        return Gain::Refused(VALUE);
+    }
+    graded(&antenna.record, antenna.record.ccirgain(elevation, azimuth, giso))
+}
+
+/// Counts of an antenna record that no set-up leaves: the source's loops and indices go by them.
+fn counts_refused(words: &[u32]) -> bool {
+    let [dipoles, stacks] = [13, 14].map(|k| f32::from_bits(words[k]));
+    let (iek, nat) = (&words[162..198], words[265] as usize);
+    outside(dipoles, 0.0, 64.0) || outside(stacks, 0.0, 64.0) || nat > 30 || iek[1..=nat].iter().any(|i| !(1..=30).contains(i))
+}
+
+/// What gain and row ask of an antenna record in 997 words, whoever made them.
+fn record_refused(words: &[u32]) -> Result<(), Refusal> {
+    refuse_if(!(1..=9).contains(&words[0]), TYPE)?;
+    refuse_if(counts_refused(words), COUNT)
+}
+
+fn try_kept_gain(words: &[u32], table: &[f32], [elevation, azimuth, giso]: [f32; 3]) -> Result<Gain, Refusal> {
+    refuse_if(any_not_finite(&[elevation, azimuth, giso]), VALUE)?;
+    record_refused(words)?;
+    refuse_if(table.len() < TABLE, SPACE)?;
+    let record = CcirAntenna::of_words(words, table);
+    Ok(graded(&record, record.ccirgain(elevation, azimuth, giso)))
+}
+
+/// `ccirgain`, of an antenna record in 997 words and a table.
+pub fn kept_gain(words: &[u32], table: &[f32], asked: [f32; 3]) -> Gain {
+    try_kept_gain(words, table, asked).unwrap_or_else(Gain::Refused)
+}
+
+/// The 360 numbers at one elevation and front-to-back.
+fn numbers(record: &CcirAntenna, elevation: f32, giso: f32) -> Result<([f32; ROW], f32), Refusal> {
+    let numbers: [f32; ROW] = std::array::from_fn(|v| record.ccirgain(elevation, v as f32, giso));
     let front_to_back = numbers[0] - numbers[180];
     refuse_if(any_not_finite(&numbers) || !front_to_back.is_finite(), LEVEL)?;
     Ok((numbers, front_to_back))
+}
+
+fn elevation_refused(elevation: f32) -> bool {
+    outside(elevation, 0.0, 90.0) || elevation.fract() != 0.0
+}
+
+/// The plate row at one elevation, of an antenna that set-up left.
+pub fn row(antenna: &Antenna, elevation: f32, giso: f32) -> Result<([f32; ROW], f32), Refusal> {
+    refuse_if(any_not_finite(&[elevation, giso]), VALUE)?;
+    refuse_if(elevation_refused(elevation), AIM)?;
+    numbers(&antenna.record, elevation, giso)
+}
+
+/// The plate row of an antenna record in 997 words and a table, into `room` floats.
+pub fn kept_row(words: &[u32], table: &[f32], elevation: f32, giso: f32, room: usize) -> Result<([f32; ROW], f32), Refusal> {
+    refuse_if(any_not_finite(&[elevation, giso]), VALUE)?;
+    record_refused(words)?;
+    refuse_if(elevation_refused(elevation), AIM)?;
+    refuse_if(table.len() < TABLE || room != ROW, SPACE)?;
+    numbers(&CcirAntenna::of_words(words, table), elevation, giso)
 }

@@ -60,7 +60,7 @@ pub const IMPOSTORS: &[Impostor] = &[
     Impostor { name: "table blank", after: "else if iant == 5 || iant == 6", old: "1..=ant.nat", new: "1..=0", ..SOURCE },
     Impostor {
         name: "lent table blank",
-        call: "row",
+        call: "setup",
         file: "expected.rs",
         after: "fn copy_table",
         old: "self.record.copy_table(table);",

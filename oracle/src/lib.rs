@@ -1,5 +1,6 @@
 //! The judge of the Rattle: document 01's rules written apart from it, the source's Rust over those rules, and the proved library
 //! behind safe wrappers.
+pub mod antennas;
 pub mod bandbook;
 pub mod board;
 pub mod books;
@@ -21,6 +22,7 @@ pub mod plain;
 pub mod plate;
 pub mod random;
 pub mod record;
+pub mod records;
 #[cfg(source)]
 pub mod reference;
 pub mod report;
@@ -30,3 +32,4 @@ pub mod service;
 pub mod source;
 pub mod stations;
 pub mod stored;
+pub mod why;

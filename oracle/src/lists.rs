@@ -1,5 +1,6 @@
 //! What the stored lists ask: for each call some inputs by number, from the same seed each time, and before them the cases that show
 //! an impostor. `bin/write_stored.rs` writes the lists, `compare stored` holds those that are stored to these.
+use crate::antennas::{ANTENNA, FOUND};
 use crate::board::{self, LEAVES};
 use crate::calendar::walk;
 use crate::calls::{Call, Value, CALLS};
@@ -11,7 +12,7 @@ use crate::levels::{self as strengths, Run, SHOWN};
 use crate::random::Random;
 use crate::record::{self, BYTES, WORDS};
 use crate::stored::{head, lent_bytes, lent_floats, lent_words, place, Record, ROOT};
-use crate::{books, broken, stations};
+use crate::{books, broken, records, stations};
 
 /// The cases that an impostor has.
 pub const CASES: usize = 3;
@@ -32,7 +33,7 @@ fn inputs_of(call: &Call) -> (u64, Inputs) {
         "read" => (70, read),
         "write" => (70, write),
         "gains" => (240, gains),
-        "row" => (180, row),
+        "setup" => (140, setup),
         "plate" => (100, plate),
         "book" => (80, book),
         "station_for" => (80, station_for),
@@ -42,6 +43,11 @@ fn inputs_of(call: &Call) -> (u64, Inputs) {
         "levels_record" => (60, levels_record),
         "levels" => (40, levels),
         "board" => (60, board),
+        "gain" => (160, gain),
+        "plate_row" => (120, plate_row),
+        "why" => (150, why),
+        "curtain_why" => (60, curtain_why),
+        "curtain_factor" => (24, curtain_factor),
         name => panic!("{name} has no inputs"),
     }
 }
@@ -187,18 +193,41 @@ fn gains(random: &mut Random, k: u64) -> Vec<Value> {
     vec![Value::Floats(parm[..n].to_vec()), Value::Float(giso), Value::Floats(directions[..m].to_vec()), lent_words(lent)]
 }
 
-fn row(random: &mut Random, k: u64) -> Vec<Value> {
+fn setup(random: &mut Random, k: u64) -> Vec<Value> {
     let parm = station(random);
-    let (giso, elevation) = (stations::giso(random), broken::elevation(random));
-    let (n, table, row, lent) = match k % 30 {
-        26 => (random.pick(&[0, 19, 21]), TABLE, ROW, 5),
-        27 => (20, random.pick(&[0, 2821, TABLE - 1, TABLE + 1]), ROW, 5),
-        28 => (20, TABLE, random.pick(&[0, 359, 361]), 5),
-        29 => (20, TABLE, ROW, random.pick(&[0, 4, 6])),
-        _ => (20, TABLE, ROW, 5),
+    let (n, table, words, lent) = match k % 30 {
+        26 => (random.pick(&[0, 19, 21]), TABLE, ANTENNA, FOUND),
+        27 => (20, random.pick(&[0, 2821, TABLE - 1, TABLE + 1]), ANTENNA, FOUND),
+        28 => (20, TABLE, random.pick(&[0, ANTENNA - 1, ANTENNA + 1]), FOUND),
+        29 => (20, TABLE, ANTENNA, random.pick(&[0, 3, 5])),
+        _ => (20, TABLE, ANTENNA, FOUND),
     };
-    let [giso, elevation] = [giso, elevation].map(Value::Float);
-    vec![Value::Floats(parm[..n].to_vec()), lent_floats(table), giso, elevation, lent_floats(row), lent_words(lent)]
+    vec![Value::Floats(parm[..n].to_vec()), lent_floats(table), lent_words(words), lent_words(lent)]
+}
+
+/// A station, and in half of the cases a word of its record changed; a table or a record of another length now and then.
+fn kept_antenna(random: &mut Random, k: u64) -> (Vec<f32>, Vec<u32>, [usize; 2]) {
+    let (parm, change) = (station(random)[..20].to_vec(), records::change(random));
+    let lengths = match k % 30 {
+        28 => [random.pick(&[0, 2821, TABLE - 1, TABLE + 1]), ANTENNA],
+        29 => [TABLE, random.pick(&[0, ANTENNA - 1, ANTENNA + 1])],
+        _ => [TABLE, ANTENNA],
+    };
+    (parm, if k % 2 == 0 { Vec::new() } else { change.to_vec() }, lengths)
+}
+
+fn gain(random: &mut Random, k: u64) -> Vec<Value> {
+    let (parm, changes, [table, words]) = kept_antenna(random, k);
+    let asked = vec![angle(random, 90.0), angle(random, 360.0), stations::giso(random)];
+    vec![Value::Floats(parm), Value::Words(changes), Value::Floats(asked), lent_floats(table), lent_words(words)]
+}
+
+fn plate_row(random: &mut Random, k: u64) -> Vec<Value> {
+    let (parm, changes, [table, words]) = kept_antenna(random, k);
+    let asked = vec![broken::elevation(random), stations::giso(random)];
+    let row = if k % 30 == 27 { random.pick(&[0, 359, 361]) } else { ROW };
+    let lent = [lent_floats(table), lent_words(words), lent_floats(row)];
+    [Value::Floats(parm), Value::Words(changes), Value::Floats(asked)].into_iter().chain(lent).collect()
 }
 
 fn plate(random: &mut Random, k: u64) -> Vec<Value> {
@@ -318,6 +347,35 @@ fn board(random: &mut Random, k: u64) -> Vec<Value> {
     };
     rows.truncate(rows.len() - if random.below(12) == 0 { rows.len().min(1) } else { 0 });
     vec![Value::Words(calls), Value::Floats(rows), lent_words(words), lent_floats(numbers), lent_words(ids)]
+}
+
+/// Twenty floats, now and then another number of them.
+fn twenty(random: &mut Random, k: u64, parm: [f32; 20]) -> Vec<Value> {
+    let mut parm = parm.to_vec();
+    if k % 20 == 19 {
+        parm.resize(random.pick(&[0, 19, 21]), 1.0);
+    }
+    vec![Value::Floats(parm)]
+}
+
+/// A station of any type, up to three of its slots broken.
+fn why(random: &mut Random, k: u64) -> Vec<Value> {
+    let parm = station(random)[..20].try_into().expect("twenty");
+    let parm = stations::damaged(random, parm, 3);
+    twenty(random, k, parm)
+}
+
+fn curtain_why(random: &mut Random, k: u64) -> Vec<Value> {
+    let parm = stations::curtain(random).map(short);
+    let parm = stations::damaged(random, parm, 3);
+    twenty(random, k, parm)
+}
+
+/// One in four has a slot that may be broken.
+fn curtain_factor(random: &mut Random, k: u64) -> Vec<Value> {
+    let parm = stations::curtain(random).map(short);
+    let parm = if k % 4 == 3 { stations::damaged(random, parm, 1) } else { parm };
+    twenty(random, k, parm)
 }
 
 /// Whether a stored record's input is kept: those of a number are made anew, a case goes with its impostor.

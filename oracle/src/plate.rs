@@ -33,7 +33,7 @@ fn lines(input: &[u8]) -> Result<String, Refusal> {
     let (giso, parm) = expected::maxgain(&gains_of(&words, input))?;
     let antenna = expected::set_up(&parm, TABLE)?;
     let elevation = float_at(input, 233);
-    expected::row(&antenna, elevation, giso, ROW)?;
+    expected::row(&antenna, elevation, giso)?;
     Ok((0..ROW).map(|v| line(v, expected::gain(&antenna, elevation, v as f32, giso))).collect())
 }
 

@@ -2,10 +2,12 @@
 //! A slice of the wrong length is refused as 8 before anything else, except a lent table and row, whose place is document 01's.
 use super::expected::{self, Gains, Refusal, SPACE, TABLE};
 use super::plate as program;
+use crate::antennas::{prepare, ANTENNA, FOUND};
 pub use crate::bandbook::{book, station_for};
 pub use crate::calendar::{next_season, open, season};
 pub use crate::leaf::by_rules as leaf;
 pub use crate::levels::show as levels;
+pub use crate::why::{curtain_why, why};
 use crate::{board, levels as strengths, record};
 
 /// The refusal's number, or 0.
@@ -30,9 +32,17 @@ pub fn maxgain(mode: u32, floats: &[f32], out: &mut [u32]) -> u32 {
     code(try_maxgain(mode, floats, out))
 }
 
+/// A number's bits, or kind 3 and the refusal's number.
+fn packed(answer: Result<f32, Refusal>) -> u64 {
+    answer.map_or_else(refused, |x| x.to_bits().into())
+}
+
 pub fn curtain(parm: &[f32], azimuth: f32, elevation: f32, factor: f32) -> u64 {
-    let answer = parm_of(parm).and_then(|parm| expected::curtain_gain(parm, azimuth, elevation, factor));
-    answer.map_or_else(|number| 3 << 32 | u64::from(number), |gain| gain.to_bits().into())
+    packed(parm_of(parm).and_then(|parm| expected::curtain_gain(parm, azimuth, elevation, factor)))
+}
+
+pub fn curtain_factor(parm: &[f32]) -> u64 {
+    packed(parm_of(parm).and_then(expected::curtain_factor))
 }
 
 fn try_gains(parm: &[f32], giso: f32, directions: &[f32], out: &mut [u32]) -> Result<(), Refusal> {
@@ -53,20 +63,58 @@ pub fn gains(parm: &[f32], giso: f32, directions: &[f32], out: &mut [u32]) -> u3
     code(try_gains(parm, giso, directions, out))
 }
 
-fn try_row(parm: &[f32], table: &mut [f32], giso: f32, elevation: f32, row: &mut [f32], out: &mut [u32]) -> Result<(), Refusal> {
+fn try_setup(parm: &[f32], table: &mut [f32], antenna: &mut [u32], out: &mut [u32]) -> Result<(), Refusal> {
     let parm = parm_of(parm)?;
-    let out: &mut [u32; 5] = out.try_into().map_err(|_| SPACE)?;
-    let antenna = expected::set_up(parm, table.len())?;
-    antenna.copy_table(table);
-    out[..4].copy_from_slice(&antenna.words());
-    let (numbers, front_to_back) = expected::row(&antenna, elevation, giso, row.len()).map_err(|number| 256 + number)?;
-    row.copy_from_slice(&numbers);
-    out[4] = front_to_back.to_bits();
+    if antenna.len() != ANTENNA || out.len() != FOUND {
+        return Err(SPACE);
+    }
+    let found = expected::set_up(parm, table.len())?;
+    found.copy_table(table);
+    antenna.copy_from_slice(&found.record());
+    out.copy_from_slice(&found.words());
     Ok(())
 }
 
-pub fn row(parm: &[f32], table: &mut [f32], giso: f32, elevation: f32, row: &mut [f32], out: &mut [u32]) -> u32 {
-    code(try_row(parm, table, giso, elevation, row, out))
+pub fn setup(parm: &[f32], table: &mut [f32], antenna: &mut [u32], out: &mut [u32]) -> u32 {
+    code(try_setup(parm, table, antenna, out))
+}
+
+/// Kind 3 and the number.
+fn refused(number: Refusal) -> u64 {
+    3 << 32 | u64::from(number)
+}
+
+pub fn gain_of(antenna: &[u32], table: &[f32], elevation: f32, azimuth: f32, giso: f32) -> u64 {
+    if antenna.len() != ANTENNA {
+        return refused(SPACE);
+    }
+    let [kind, word] = expected::kept_gain(antenna, table, [elevation, azimuth, giso]).words();
+    u64::from(kind) << 32 | u64::from(word)
+}
+
+fn try_row_of(antenna: &[u32], table: &[f32], elevation: f32, giso: f32, row: &mut [f32]) -> Result<u64, Refusal> {
+    if antenna.len() != ANTENNA {
+        return Err(SPACE);
+    }
+    let (numbers, front_to_back) = expected::kept_row(antenna, table, elevation, giso, row.len())?;
+    row.copy_from_slice(&numbers);
+    Ok(front_to_back.to_bits().into())
+}
+
+pub fn row_of(antenna: &[u32], table: &[f32], elevation: f32, giso: f32, row: &mut [f32]) -> u64 {
+    try_row_of(antenna, table, elevation, giso, row).unwrap_or_else(refused)
+}
+
+/// Set-up, words changed, then the gain.
+pub fn gain(parm: &[f32], changes: &[u32], asked: &[f32], table: &mut [f32], antenna: &mut [u32]) -> u64 {
+    prepare(setup, parm, changes, table, antenna);
+    gain_of(antenna, table, asked[0], asked[1], asked[2])
+}
+
+/// Set-up, words changed, then the row.
+pub fn plate_row(parm: &[f32], changes: &[u32], asked: &[f32], table: &mut [f32], antenna: &mut [u32], row: &mut [f32]) -> u64 {
+    prepare(setup, parm, changes, table, antenna);
+    row_of(antenna, table, asked[0], asked[1], row)
 }
 
 fn try_read(bytes: &[u8], words: &mut [u32]) -> Result<(), Refusal> {

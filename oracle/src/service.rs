@@ -1,5 +1,6 @@
 //! The proved library's calls. Nothing checks these declarations against the Rattle: keep both side by side in a review.
 //! A slice is a pointer, then a length.
+use crate::antennas::prepare;
 use crate::board;
 
 mod raw {
@@ -16,18 +17,35 @@ mod raw {
             out: *mut u32,
             out_len: usize,
         ) -> u32;
-        pub fn hf_row(
+        pub fn hf_setup(
             parm: *const f32,
             parm_len: usize,
             table: *mut f32,
             table_len: usize,
-            giso: f32,
-            elevation: f32,
-            row: *mut f32,
-            row_len: usize,
+            antenna: *mut u32,
+            antenna_len: usize,
             out: *mut u32,
             out_len: usize,
         ) -> u32;
+        pub fn hf_gain(
+            antenna: *const u32,
+            antenna_len: usize,
+            table: *const f32,
+            table_len: usize,
+            elevation: f32,
+            azimuth: f32,
+            giso: f32,
+        ) -> u64;
+        pub fn hf_plate_row(
+            antenna: *const u32,
+            antenna_len: usize,
+            table: *const f32,
+            table_len: usize,
+            elevation: f32,
+            giso: f32,
+            row: *mut f32,
+            row_len: usize,
+        ) -> u64;
         pub fn hf_read(record: *const u8, record_len: usize, words: *mut u32, words_len: usize) -> u32;
         pub fn hf_write(words: *const u32, words_len: usize, record: *mut u8, record_len: usize) -> u32;
         pub fn hf_book(rows: *const u32, rows_len: usize) -> u64;
@@ -49,6 +67,9 @@ mod raw {
             ids: *mut u32,
             ids_len: usize,
         ) -> u32;
+        pub fn hf_why(parm: *const f32, parm_len: usize) -> u64;
+        pub fn hf_curtain_why(parm: *const f32, parm_len: usize) -> u64;
+        pub fn hf_curtain_factor(parm: *const f32, parm_len: usize) -> u64;
     }
 }
 
@@ -73,12 +94,38 @@ pub fn gains(parm: &[f32], giso: f32, directions: &[f32], out: &mut [u32]) -> u3
     unsafe { raw::hf_gains(parm.as_ptr(), parm.len(), giso, directions.as_ptr(), directions.len(), out, out_len) }
 }
 
-pub fn row(parm: &[f32], table: &mut [f32], giso: f32, elevation: f32, row: &mut [f32], out: &mut [u32]) -> u32 {
+pub fn setup(parm: &[f32], table: &mut [f32], antenna: &mut [u32], out: &mut [u32]) -> u32 {
     let (table_len, table) = (table.len(), table.as_mut_ptr());
-    let (row_len, row) = (row.len(), row.as_mut_ptr());
+    let (antenna_len, antenna) = (antenna.len(), antenna.as_mut_ptr());
     let (out_len, out) = (out.len(), out.as_mut_ptr());
     // SAFETY: as above.
-    unsafe { raw::hf_row(parm.as_ptr(), parm.len(), table, table_len, giso, elevation, row, row_len, out, out_len) }
+    unsafe { raw::hf_setup(parm.as_ptr(), parm.len(), table, table_len, antenna, antenna_len, out, out_len) }
+}
+
+/// `hf_gain` itself; `gain` below sets up before it.
+pub fn gain_of(antenna: &[u32], table: &[f32], elevation: f32, azimuth: f32, giso: f32) -> u64 {
+    // SAFETY: as above.
+    unsafe { raw::hf_gain(antenna.as_ptr(), antenna.len(), table.as_ptr(), table.len(), elevation, azimuth, giso) }
+}
+
+/// `hf_plate_row` itself; `plate_row` below sets up before it.
+pub fn row_of(antenna: &[u32], table: &[f32], elevation: f32, giso: f32, row: &mut [f32]) -> u64 {
+    let (row_len, row) = (row.len(), row.as_mut_ptr());
+    let (table_len, table) = (table.len(), table.as_ptr());
+    // SAFETY: as above.
+    unsafe { raw::hf_plate_row(antenna.as_ptr(), antenna.len(), table, table_len, elevation, giso, row, row_len) }
+}
+
+/// Set-up, words changed, then the gain.
+pub fn gain(parm: &[f32], changes: &[u32], asked: &[f32], table: &mut [f32], antenna: &mut [u32]) -> u64 {
+    prepare(setup, parm, changes, table, antenna);
+    gain_of(antenna, table, asked[0], asked[1], asked[2])
+}
+
+/// Set-up, words changed, then the row.
+pub fn plate_row(parm: &[f32], changes: &[u32], asked: &[f32], table: &mut [f32], antenna: &mut [u32], row: &mut [f32]) -> u64 {
+    prepare(setup, parm, changes, table, antenna);
+    row_of(antenna, table, asked[0], asked[1], row)
 }
 
 pub fn read(record: &[u8], words: &mut [u32]) -> u32 {
@@ -162,4 +209,19 @@ pub fn board_show(board: &[u32], numbers: &mut [f32], ids: &mut [u32]) -> u32 {
 pub fn board(calls: &[u32], rows: &[f32], words: &mut [u32], numbers: &mut [f32], ids: &mut [u32]) -> u32 {
     let library = board::Calls { empty: board_empty, join: board_join, leave: board_leave, show: board_show };
     board::run(&library, calls, rows, words, numbers, ids)
+}
+
+pub fn why(parm: &[f32]) -> u64 {
+    // SAFETY: as above.
+    unsafe { raw::hf_why(parm.as_ptr(), parm.len()) }
+}
+
+pub fn curtain_why(parm: &[f32]) -> u64 {
+    // SAFETY: as above.
+    unsafe { raw::hf_curtain_why(parm.as_ptr(), parm.len()) }
+}
+
+pub fn curtain_factor(parm: &[f32]) -> u64 {
+    // SAFETY: as above.
+    unsafe { raw::hf_curtain_factor(parm.as_ptr(), parm.len()) }
 }

@@ -81,6 +81,21 @@ fn met(gain: f32) -> f32 {
     gain
 }
 
+thread_local! {
+    static FACTOR: RefCell<f32> = const { RefCell::new(f32::NAN) };
+}
+
+/// The factor of the last integral.
+pub fn take_factor() -> f32 {
+    FACTOR.replace(f32::NAN)
+}
+
+/// A factor on its way from the integral.
+fn integrated(factor: f32) -> f32 {
+    FACTOR.replace(factor);
+    factor
+}
+
 #[allow(dead_code, clippy::all)]
 pub mod ccir {
     include!(concat!(env!("OUT_DIR"), "/ccir.rs"));
@@ -91,6 +106,90 @@ pub mod ccir {
             let rows = [&self.ww1, &self.ww2, &self.ww3, &self.ww4].into_iter().flatten();
             for (lent, row) in table.chunks_mut(31).zip(rows) {
                 lent.copy_from_slice(row);
+            }
+        }
+
+        /// The record without its table, as 997 words in the order of the fields; of `ifs` only whether it isn't 0.
+        pub fn words(&self) -> Vec<u32> {
+            let constants = [
+                self.d1, self.e1, self.beta, self.cpfr, self.cp11, self.fr1, self.h1, self.pfr, self.p11, self.p11s, self.q2,
+                self.r2, self.r3, self.sl, self.costh, self.sinth,
+            ];
+            let floats = |lists: &[&[R]]| -> Vec<u32> { lists.concat().into_iter().map(crate::leaf::bits).collect() };
+            [
+                vec![self.iant as u32, u32::from(self.ifs != 0)],
+                floats(&[&constants, &self.fi, &self.rim, &self.x, &self.y]),
+                self.iek.iter().map(|i| *i as u32).collect(),
+                floats(&[&self.rl, &self.h]),
+                vec![self.nat as u32],
+                floats(&[&self.a, &self.b, &self.w3, &self.w4, &self.w5, &self.w6, &self.w9, &self.w10]),
+                floats(&[&[self.z6, self.umax, self.vmax]]),
+            ]
+            .concat()
+        }
+
+        /// The record in 997 words, with the table's floats.
+        pub fn of_words(words: &[u32], table: &[R]) -> Self {
+            let mut words = words.iter().copied();
+            let mut word = || words.next().expect("997 words");
+            let (iant, ifs) = (word() as i32, i32::from(word() != 0));
+            let mut float = || R::from_bits(word());
+            let [d1, e1, beta, cpfr, cp11, fr1, h1, pfr] = [(); 8].map(|()| float());
+            let [p11, p11s, q2, r2, r3, sl, costh, sinth] = [(); 8].map(|()| float());
+            let [fi, rim, x, y] = [(); 4].map(|()| [(); 36].map(|()| float()));
+            let iek = [(); 36].map(|()| word() as usize);
+            let mut float = || R::from_bits(word());
+            let (rl, h) = ([(); 36].map(|()| float()), [(); 31].map(|()| float()));
+            let nat = word() as usize;
+            let mut float = || R::from_bits(word());
+            let [a, b, w3, w4, w5, w6, w9, w10] = [(); 8].map(|()| [(); 91].map(|()| float()));
+            let [z6, umax, vmax] = [(); 3].map(|()| float());
+            let part = |k: usize| -> Vec<[R; 31]> {
+                table[k * 91 * 31..(k + 1) * 91 * 31].chunks(31).map(|row| row.try_into().expect("31 floats")).collect()
+            };
+            let [ww1, ww2, ww3, ww4] = [0, 1, 2, 3].map(part);
+            CcirAntenna {
+                iant,
+                d1,
+                e1,
+                beta,
+                cpfr,
+                cp11,
+                fr1,
+                h1,
+                pfr,
+                p11,
+                p11s,
+                q2,
+                r2,
+                r3,
+                sl,
+                costh,
+                sinth,
+                fi,
+                rim,
+                x,
+                y,
+                iek,
+                rl,
+                h,
+                nat,
+                a,
+                b,
+                w3,
+                w4,
+                w5,
+                w6,
+                w9,
+                w10,
+                ww1,
+                ww2,
+                ww3,
+                ww4,
+                z6,
+                umax,
+                vmax,
+                ifs,
             }
         }
     }

@@ -142,6 +142,14 @@ pub fn disturbed(random: &mut Random, mut parm: Parm) -> Parm {
     parm
 }
 
+/// Up to so many slots changed, any of the twenty: often several limits are broken at once.
+pub fn damaged(random: &mut Random, mut parm: Parm, most: u64) -> Parm {
+    for _ in 0..random.below(most + 1) {
+        parm[random.below(20) as usize] = odd(random);
+    }
+    parm
+}
+
 /// A log-periodic or rhombic so long that a sine's argument leaves its domain, perhaps only in directions the search doesn't read.
 fn stretched(random: &mut Random, parm: &mut Parm) {
     let length = 65_536.0 * 299.8 / (6.283_185_5 * parm[4]);

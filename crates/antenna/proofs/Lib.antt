@@ -9,3 +9,4 @@ pub mod RowGains
 mod Granted
 pub mod Outcomes
 pub mod ReadingCount
+pub mod WhyNumber

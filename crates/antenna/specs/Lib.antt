@@ -4,6 +4,7 @@ pub mod Literals
 pub mod Whole
 pub mod Search
 pub mod Limits
+pub mod Why
 pub mod TypeConstants
 pub mod SetUp
 pub mod Asked

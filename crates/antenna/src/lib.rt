@@ -5,7 +5,9 @@
 //   for the lent table (specs/SetUp.antt);
 // - `gain::ccirgain`, the gain at a direction: `gainOf` (specs/Gain.antt);
 // - `row::row`, the gains around one elevation: `rowOf`, and `rowAfter` for the lent row
-//   (specs/Row.antt).
+//   (specs/Row.antt);
+// - `why::why`, which slot a refusal of set-up is about: `whyOf` (specs/Why.antt), under set-up's own
+//   number (`why-number`, proofs/WhyNumber.antt).
 //
 // What set-up accepts, and that an accepted number is finite, is proved in proofs/Outcomes.antt; that
 // a row's numbers are the gain's, with its kinds, in proofs/RowGains.antt.
@@ -19,3 +21,4 @@ pub mod row;
 mod search;
 pub mod setup;
 mod whole;
+pub mod why;

@@ -11,6 +11,7 @@ use model::record::Model;
 use numeric::bits::bits_of;
 use numeric::float::is_finite;
 use pattern::gainrel::gainrel;
+use pattern::passes::around;
 ghost use mathlib.Core.Path.{_≡_};
 ghost use Prim.Native.Nat.{ℕ, _≤_};
 ghost use mathlib.Core.Bool.{true};
@@ -65,10 +66,11 @@ fn filled(m: Model, z6: f32, table: &[f32], u: f32, giso: f32, n: u16) -> [f32; 
     requires { ⌜ (countsOk m ≡ true) × (tableSize ≤ length (now table)) × (n ≤ 360) ⌝ }
     ensures { λ r. ⌜ r ≡ rowTo m z6 (now (table .entry)) u giso n ⌝ }
 {
+    let gains = around(m, table, u, n);
     let mut out = [0.0f32; 360];
     let mut v: u16 = 0;
     while v < n {
-        let z9 = gainrel(m, table, u, v as f32);
+        let z9 = gains[v as usize];
         out[v as usize] = decibels(z9, z6, giso);
         v += 1;
     }

@@ -1,8 +1,10 @@
 // The search for the pattern's maximum, `azmax` and `gainorm`, with the count of its readings.
-// Each pass calls `gainrel` in its own loop, so that a reading copies the antenna's model once.
+// The elevation pass has its 90 gains from `up`, which copies the antenna's model once; the azimuth
+// passes, of 11 to 21 readings, call `gainrel` in their own loops, which copies it once a reading.
 use crate::record::Peak;
 use model::record::Model;
 use pattern::gainrel::gainrel;
+use pattern::passes::up;
 ghost use mathlib.Core.Path.{_≡_};
 ghost use Prim.Native.Nat.{_+_, _<_, _≤_, _^_};
 ghost use mathlib.Core.Bool.{true};
@@ -269,13 +271,13 @@ fn elevation_pass(m: Model, table: &[f32], v: f32, e: Elevations) -> Elevations
     ensures { λ r. ⌜ r ≡ elevationsTo m (now (table .entry)) v e 90 ⌝ }
     ensures { λ r. ⌜ r .tally .readings ≡ e .tally .readings + 90 ⌝ }
 {
+    let gains = up(m, table, v);
     let mut out = e;
     let mut iu: u16 = 0;
     while iu < 90 {
+        let z9 = gains[iu as usize];
         iu += 1;
-        let u = iu as f32;
-        let z9 = gainrel(m, table, u, v);
-        out = elevation_read(out, u, z9);
+        out = elevation_read(out, iu as f32, z9);
     }
     out
 }

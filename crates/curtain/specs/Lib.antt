@@ -7,5 +7,7 @@ pub mod Pattern
 pub mod Integral
 pub mod Level
 pub mod Answers
+pub mod Factor
+pub mod Why
 -- the code's steps, proved equal
 pub mod PatternSteps

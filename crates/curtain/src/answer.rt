@@ -1,4 +1,4 @@
-// A curtain's answer: document 01's level or refusal.
+// A curtain's answer: a number, document 01's level or a factor, or a refusal.
 ghost use mathlib.Core.Path.{_≡_};
 ghost use Rattle.curtain.specs.Answers as Answers;
 

@@ -3,21 +3,19 @@ use crate::azimuth::behind;
 use crate::azimuth::fold;
 use crate::constants::D2R;
 use crate::constants::PI;
+use crate::direction::f2_of;
 use crate::integral::dbltrap;
-use crate::pattern::Curtain;
-use crate::pattern::f2;
 use crate::pattrn0::curtain_of;
 ghost use mathlib.Core.Path.{_≡_};
 ghost use Rattle.curtain.specs.Level as Level;
-ghost use Rattle.curtain.specs.Pattern as Pattern;
+ghost use Rattle.curtain.specs.Pattrn0 as Pattrn0;
 
 // The normalising factor: -99999 asks for the integral.
-fn factor_of(ant: Curtain, gnorm: f32) -> f32
-    requires { ⌜ Pattern.Counted ant ⌝ }
-    ensures { λ r. ⌜ r ≡ Level.factorOf ant gnorm ⌝ }
+pub(crate) fn factor_of(parm: [f32; 20], gnorm: f32) -> f32
+    ensures { λ r. ⌜ r ≡ Level.factorOf (Pattrn0.curtainOf parm) gnorm ⌝ }
 {
     if gnorm == -99999.0 {
-        return 4.0 * PI / dbltrap(ant);
+        return 4.0 * PI / dbltrap(curtain_of(parm));
     }
     gnorm
 }
@@ -36,10 +34,9 @@ fn decibels(xgain: f32, factor: f32) -> f32
 pub(crate) fn level_of(parm: [f32; 20], azimd: f32, elevd: f32, gnorm: f32) -> f32
     ensures { λ r. ⌜ r ≡ Level.levelOf parm azimd elevd gnorm ⌝ }
 {
-    let ant = curtain_of(parm);
     let azim = azimd * D2R;
-    let factor = factor_of(ant, gnorm);
-    let xgain = f2(ant, elevd * D2R, fold(azim));
+    let factor = factor_of(parm, gnorm);
+    let xgain = f2_of(parm, elevd * D2R, fold(azim));
     let xgn = decibels(xgain, factor);
     if behind(azim) { xgn - 20.0 } else { xgn }
 }

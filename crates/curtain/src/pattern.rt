@@ -1,6 +1,8 @@
 // The curtain's power pattern at one direction: the source's `f2`.
+use numeric::bits::bits_of;
 ghost use mathlib.Core.Path.{_≡_};
 ghost use Prim.Native.Nat.{_≤_};
+ghost use Rattle.numeric.specs.Sine.{sine, cosine};
 ghost use Rattle.curtain.specs.Pattern as Pattern;
 ghost use Rattle.curtain.specs.PatternSteps as Steps;
 
@@ -19,7 +21,7 @@ pub(crate) struct Curtain {
 }
 
 // One dipole, cpsi being the cosine of the angle to it.
-fn dipole(eil: f32, ceil: f32, cpsi: f32) -> f32
+pub(crate) fn dipole(eil: f32, ceil: f32, cpsi: f32) -> f32
     ensures { λ r. ⌜ r ≡ Pattern.efOf eil ceil cpsi ⌝ }
 {
     let b = numeric::sine::cos(eil * cpsi) - ceil;
@@ -28,6 +30,25 @@ fn dipole(eil: f32, ceil: f32, cpsi: f32) -> f32
         return b / 1.0e-12;
     }
     b / spsi2
+}
+
+// The cosine and the sine at a bay's phase. The first bay's is +0, which needs no series.
+pub(crate) fn cos_at(phase: f32) -> f32
+    ensures { λ r. ⌜ r ≡ cosine phase ⌝ }
+{
+    if bits_of(phase) == 0 {
+        return 1.0;
+    }
+    numeric::sine::cos(phase)
+}
+
+pub(crate) fn sin_at(phase: f32) -> f32
+    ensures { λ r. ⌜ r ≡ sine phase ⌝ }
+{
+    if bits_of(phase) == 0 {
+        return 0.0;
+    }
+    numeric::sine::sin(phase)
 }
 
 // The power of the bays.
@@ -41,8 +62,8 @@ fn bay_power(ant: Curtain, cpsi: f32) -> f32
     let mut i: usize = 0;
     while i < nbs {
         let arg = ant.y[i] * cpsi + ant.ps[i];
-        fyr += ant.r[i] * numeric::sine::cos(arg);
-        fyi += ant.r[i] * numeric::sine::sin(arg);
+        fyr += ant.r[i] * cos_at(arg);
+        fyi += ant.r[i] * sin_at(arg);
         i += 1;
     }
     fyr * fyr + fyi * fyi
@@ -64,7 +85,7 @@ fn stack_sines(ant: Curtain, stheta: f32) -> f32
 }
 
 // The power of the stacks. The two sines are multiplied first.
-fn stack_power(fz: f32, stheta: f32, sphi: f32, cphi: f32) -> f32
+pub(crate) fn stack_power(fz: f32, stheta: f32, sphi: f32, cphi: f32) -> f32
     ensures { λ r. ⌜ r ≡ Pattern.stackPower fz stheta sphi cphi ⌝ }
 {
     let cof = stheta * sphi;

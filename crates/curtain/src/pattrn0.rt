@@ -38,7 +38,7 @@ fn beta_of(parm: [f32; 20]) -> f32
     PI2 / wave
 }
 
-fn lengths_of(parm: [f32; 20]) -> Lengths
+pub(crate) fn lengths_of(parm: [f32; 20]) -> Lengths
     ensures { λ r. ⌜ r ≡ Pattrn0.lengthsOf parm ⌝ }
 {
     let stkspm = to_metres(parm, parm[11]);

@@ -28,7 +28,7 @@ fn aim_ok(parm: [f32; 20]) -> bool
 }
 
 // Of a station with its factor, in any direction.
-fn station_refusal(parm: [f32; 20], gnorm: f32) -> u8
+pub(crate) fn station_refusal(parm: [f32; 20], gnorm: f32) -> u8
     ensures { λ r. ⌜ r ≡ Answers.stationRefusalOf parm gnorm ⌝ }
 {
     if !station_finite(parm, gnorm) {

@@ -1,3 +1,2 @@
--- What `gainrel` answers of no type, and what it reads of its table (`gainRel-table`).
-mod Untyped
+-- What `gainrel` reads of its table (`gainRel-table`).
 pub mod TableStart

@@ -1,17 +1,19 @@
 // The log-periodic antennas, types 5 and 6, at one direction.
 use model::record::Constants;
 use model::record::Direction;
-use model::record::Elements;
 use model::record::Entry;
 use model::table::PART;
 use model::table::ROW;
 ghost use mathlib.Core.Path.{_≡_};
 ghost use mathlib.Core.Bool.{true};
+ghost use mathlib.Core.List.{List};
 ghost use Prim.Native.Nat.{_≤_};
 ghost use lib.ListN.{length};
+ghost use lib.Ieee.{Float};
 ghost use Rattle.model.specs.Table.{tableSize};
 ghost use Rattle.model.specs.Counts.{elementsOk};
 ghost use Rattle.pattern.specs.Boom.{entryAt, gammaOf, acrossBelow, acrossFactor, uprightFactor, addAcross, addUpright, added, fieldTo, bothFields, oneField};
+ghost use Rattle.pattern.specs.Aspect.{elementBy, elementsBy};
 
 const Q1: f32 = 3.1415927 / 180.0;
 
@@ -43,6 +45,27 @@ fn entry_at(table: &[f32], iu: usize, i: usize) -> Entry
         ww2: table[at + PART],
         ww3: table[at + 2 * PART],
         ww4: table[at + 3 * PART],
+    }
+}
+
+// Element i of the lists fi to rl.
+fn element_at<'a>(
+    fi: &'a [f32; 36],
+    rim: &'a [f32; 36],
+    x: &'a [f32; 36],
+    y: &'a [f32; 36],
+    rl: &'a [f32; 36],
+    i: usize,
+) -> Element
+    requires { ⌜ i ≤ 30 ⌝ }
+    ensures { λ r. ⌜ r ≡ elementBy (now (fi .entry)) (now (rim .entry)) (now (x .entry)) (now (y .entry)) (now (rl .entry)) i ⌝ }
+{
+    Element {
+        rl: rl[i],
+        rim: rim[i],
+        fi: fi[i],
+        x: x[i],
+        y: y[i],
     }
 }
 
@@ -131,19 +154,24 @@ fn add_element(
     add_across(fti, gamma * el.x + el.fi * Q1, w, s)
 }
 
-// The sums over the active elements.
-pub(crate) fn field_of(
+// The sums over the nat active elements, of the lists iek to rl, whatever their heights.
+pub(crate) fn field_of<'a>(
     upright: bool,
     k: Constants,
-    e: Elements,
+    nat: usize,
+    iek: &'a [usize; 36],
+    fi: &'a [f32; 36],
+    rim: &'a [f32; 36],
+    x: &'a [f32; 36],
+    y: &'a [f32; 36],
+    rl: &'a [f32; 36],
     table: &[f32],
     iu: usize,
     d: Direction,
 ) -> Field
-    requires { ⌜ (e .nat ≤ 30) × (elementsOk (e .iek) (e .nat) ≡ true) × (iu ≤ 90) × (tableSize ≤ length (now table)) ⌝ }
-    ensures { λ r. ⌜ r ≡ fieldTo upright k e (now (table .entry)) iu d (e .nat) ⌝ }
+    requires { ⌜ (nat ≤ 30) × (elementsOk (now iek) nat ≡ true) × (iu ≤ 90) × (tableSize ≤ length (now table)) ⌝ }
+    ensures { λ r. ⌜ ((h : List Float) → r ≡ fieldTo upright k (elementsBy (now (iek .entry)) (now (fi .entry)) (now (rim .entry)) (now (x .entry)) (now (y .entry)) (now (rl .entry)) h nat) (now (table .entry)) iu d nat) ⌝ }
 {
-    let nat = e.nat;
     let gamma = gamma_of(k, d);
     let df = across_below(d);
     let mut s = Field {
@@ -154,14 +182,8 @@ pub(crate) fn field_of(
     };
     let mut n: usize = 0;
     while n < nat {
-        let i = e.iek[n + 1];
-        let el = Element {
-            rl: e.rl[i],
-            rim: e.rim[i],
-            fi: e.fi[i],
-            x: e.x[i],
-            y: e.y[i],
-        };
+        let i = iek[n + 1];
+        let el = element_at(fi, rim, x, y, rl, i);
         s = add_element(upright, k.beta, gamma, df, d, el, entry_at(table, iu, i), s);
         n += 1;
     }

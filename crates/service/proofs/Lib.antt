@@ -1,4 +1,4 @@
 -- Laws that several proofs cite: one file for each subject.
-pub mod Copies
+pub mod AfterSetUp
 pub mod PairsOfWords
 pub mod SetUps

@@ -1,4 +1,4 @@
--- `hf_curtain`: the curtain's gain, its answer as one number. Definitions only.
+-- `hf_curtain` and `hf_curtain_factor`: the curtain's gain and factor, their answers as one number. Definitions only.
 use Prim.Native.Nat.{ℕ}
 use mathlib.Core.Bool.{cond, not}
 use mathlib.Core.List.{List}
@@ -7,9 +7,10 @@ use lib.Dec.{eqb}
 use lib.Ieee.{Float, binary32, toBits}
 use Rattle.answers.specs.Outcome.{Outcome, refused, accepted}
 use Rattle.curtain.specs.Answers.{curtainGain}
+use Rattle.curtain.specs.Factor.{factorFound}
 use Rattle.service.specs.Packed.{refusedAs}
 
--- a level's bits, or the refusal's number under kind 3
+-- a level's or a factor's bits, or the refusal's number under kind 3
 unfoldable pub packed : Outcome Float → ℕ
 packed (accepted x) = toBits binary32 x
 packed (refused n) = refusedAs n
@@ -18,3 +19,6 @@ packed (refused n) = refusedAs n
 unfoldable pub curtainCall : List Float → Float → Float → Float → ℕ
 curtainCall parm azimuth elevation factor =
     packed (cond (not (eqb (length parm) 20)) (refused 8) (curtainGain parm azimuth elevation factor))
+
+unfoldable pub factorCall : List Float → ℕ
+factorCall parm = packed (cond (not (eqb (length parm) 20)) (refused 8) (factorFound parm))

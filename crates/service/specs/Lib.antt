@@ -7,7 +7,8 @@ pub mod Curtain
 pub mod Book
 pub mod Search
 pub mod Gains
-pub mod Row
+pub mod Antennas
 pub mod Record
 pub mod Calendar
 pub mod Strengths
+pub mod Why

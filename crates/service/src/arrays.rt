@@ -1,20 +1,9 @@
 // Floats of a slice as arrays of their own.
+use words::patterns::copy_part;
 ghost use mathlib.Core.Path.{_≡_};
 ghost use Prim.Native.Nat.{_+_, _≤_};
 ghost use lib.ListN.{length};
 ghost use Rattle.service.specs.Lists.{part};
-
-// Copies floats of s from `at` on over all of out.
-fn copy_part(s: &[f32], at: usize, out: &mut [f32])
-    requires { ⌜ at + length (now out) ≤ length (now s) ⌝ }
-    ensures { λ _. ⌜ now (out .exit) ≡ part (now (s .entry)) at (length (now (out .entry))) ⌝ }
-{
-    let mut i: usize = 0;
-    while i < out.len() {
-        out[i] = s[at + i];
-        i += 1;
-    }
-}
 
 // The twenty parameters.
 pub(crate) fn parm_at(s: &[f32], at: usize) -> [f32; 20]

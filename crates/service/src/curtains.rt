@@ -1,13 +1,13 @@
-// The curtain's gain, its answer as one number.
+// The curtain's gain and factor, their answers as one number.
 use crate::arrays::parm_at;
 use crate::packed::REFUSED;
 use curtain::answer::Gain;
 use numeric::bits::bits_of;
 ghost use mathlib.Core.Path.{_≡_};
 ghost use Rattle.curtain.specs.Answers.{answerOf};
-ghost use Rattle.service.specs.Curtain.{packed, curtainCall};
+ghost use Rattle.service.specs.Curtain.{packed, curtainCall, factorCall};
 
-// Kind 0 with a level's bits, or kind 3 with a refusal's number.
+// Kind 0 with a level's or a factor's bits, or kind 3 with a refusal's number.
 fn pack(g: Gain) -> u64
     ensures { λ r. ⌜ r ≡ packed (answerOf g) ⌝ }
 {
@@ -26,4 +26,15 @@ pub extern "C" fn hf_curtain(parm: &[f32], azimuth: f32, elevation: f32, factor:
         return REFUSED + 8;
     }
     pack(curtain::gain(parm_at(parm, 0), azimuth, elevation, factor))
+}
+
+// `curtain::factor` of twenty parameters; 8 first for parameters of another number.
+#[no_mangle]
+pub extern "C" fn hf_curtain_factor(parm: &[f32]) -> u64
+    ensures { λ r. ⌜ r ≡ factorCall (now (parm .entry)) ⌝ }
+{
+    if parm.len() != 20 {
+        return REFUSED + 8;
+    }
+    pack(curtain::factor(parm_at(parm, 0)))
 }

@@ -1,4 +1,5 @@
 // What Rust and C callers link: the functions of the layers below over plain numbers and slices.
+pub mod antennas;
 mod arrays;
 pub mod boards;
 pub mod books;
@@ -11,6 +12,6 @@ pub mod maximum;
 mod packed;
 pub mod plates;
 pub mod record;
-pub mod rows;
 mod search;
 pub mod strengths;
+pub mod whys;

@@ -4,3 +4,5 @@ pub mod Laid
 pub mod Writing
 pub mod Numbers
 pub mod Elements
+pub mod Copies
+pub mod BitsBack

@@ -4,3 +4,4 @@ pub mod Laid
 pub mod Writing
 pub mod Numbers
 pub mod Floats
+pub mod Patterns

@@ -1,5 +1,7 @@
 //! The antennas' calls beside the source's Rust over the same rules, refusals included on both sides.
 use crate::clock::least;
+use oracle::antennas::{SetUp, ANTENNA, FOUND};
+use oracle::expected::{ROW, TABLE};
 use oracle::random::Random;
 use oracle::{examples, expected, reference, service, stations};
 use std::hint::black_box;
@@ -7,7 +9,7 @@ use std::hint::black_box;
 const STATIONS: usize = 16;
 
 fn row(name: &str, [rattle, rust]: [f64; 2]) {
-    println!("| {name:22} | {:9.2} | {:9.2} | {:5.2} |", rattle / 1000.0, rust / 1000.0, rattle / rust);
+    println!("| {name:29} | {:9.2} | {:9.2} | {:5.2} |", rattle / 1000.0, rust / 1000.0, rattle / rust);
 }
 
 fn maxgain(mode: u32) {
@@ -37,36 +39,97 @@ fn curtain(name: &str, factor: f32, rounds: usize, calls: usize) {
     row(name, least(rounds, calls, [&mut |_| call(service::curtain), &mut |_| call(reference::curtain)]));
 }
 
-/// `hf_row` or the reference.
-type Row = fn(&[f32], &mut [f32], f32, f32, &mut [f32], &mut [u32]) -> u32;
+/// Stations with nothing broken, of which every slot is tried for every limit.
+fn why() {
+    let mut random = Random(25);
+    let parms: Vec<_> = (0..STATIONS).map(|k| stations::realistic(&mut random, 1 + k as u32 % 9)).collect();
+    let call = |why: fn(&[f32]) -> u64| parms.iter().for_each(|parm| assert!(black_box(why)(parm) == 0));
+    row("which slot", least(2000, STATIONS, [&mut |_| call(service::why), &mut |_| call(reference::why)]));
+}
+
+/// `hf_plate_row` or the reference.
+type Row = fn(&[u32], &[f32], f32, f32, &mut [f32]) -> u64;
+
+/// What set-up leaves.
+struct Left {
+    table: [f32; TABLE],
+    antenna: [u32; ANTENNA],
+    out: [u32; FOUND],
+    row: [f32; ROW],
+}
+
+const BLANK: Left = Left { table: [0.0; TABLE], antenna: [0; ANTENNA], out: [0; FOUND], row: [0.0; ROW] };
+
+/// Set-up, then the row: whether both were accepted.
+fn set_up_and_row(set_up: SetUp, row: Row, parm: &[f32; 20], left: &mut Left) -> bool {
+    set_up(parm, &mut left.table, &mut left.antenna, &mut left.out) == 0
+        && row(&left.antenna, &left.table, 20.0, 10.0, &mut left.row) >> 32 == 0
+}
 
 /// A realistic station with a row.
 fn accepted(random: &mut Random, jant: u32) -> [f32; 20] {
     loop {
-        let parm = stations::realistic(random, jant);
-        let (mut table, mut row, mut out) = ([0.0; expected::TABLE], [0.0; expected::ROW], [0; 5]);
-        if reference::row(&parm, &mut table, 10.0, 20.0, &mut row, &mut out) == 0 {
+        let (parm, mut left) = (stations::realistic(random, jant), BLANK);
+        if set_up_and_row(reference::setup, reference::row_of, &parm, &mut left) {
+            return parm;
+        }
+    }
+}
+
+/// One with a slew, or one without, as the truncated slot says; types from 5 on have none.
+fn of_slew(random: &mut Random, jant: u32, slewed: bool) -> [f32; 20] {
+    loop {
+        let parm = accepted(random, jant);
+        if (jant <= 4 && parm[9].trunc() != 0.0) == slewed {
             return parm;
         }
     }
 }
 
 /// One call, into buffers of its own.
-fn timed(call: Row, parm: [f32; 20]) -> impl FnMut(usize) {
-    let (mut table, mut row, mut out) = ([0.0; expected::TABLE], [0.0; expected::ROW], [0; 5]);
-    move |_| assert!(black_box(call)(&parm, &mut table, 10.0, 20.0, &mut row, &mut out) == 0)
+fn timed(set_up: SetUp, row: Row, parm: [f32; 20]) -> impl FnMut(usize) {
+    let mut left = BLANK;
+    move |_| assert!(set_up_and_row(black_box(set_up), black_box(row), &parm, &mut left))
 }
 
 /// Each station by itself, since a round must be short to meet the machine idle; then the mean.
-fn set_up_and_row(jant: u32) {
+fn rows(jant: u32, slewed: bool) {
     let mut random = Random(23);
     let mut mean = [0.0; 2];
     for _ in 0..STATIONS {
-        let parm = accepted(&mut random, jant);
-        let times = least(60, 1, [&mut timed(service::row, parm), &mut timed(reference::row, parm)]);
+        let parm = of_slew(&mut random, jant, slewed);
+        let library = &mut timed(service::setup, service::row_of, parm);
+        let times = least(60, 1, [library, &mut timed(reference::setup, reference::row_of, parm)]);
         mean.iter_mut().zip(times).for_each(|(mean, time)| *mean += time / STATIONS as f64);
     }
-    row(&format!("set-up and row, type {jant}"), mean);
+    let slew = if slewed { ", slewed" } else { "" };
+    row(&format!("set-up and row, type {jant}{slew}"), mean);
+}
+
+/// `hf_gain` or the reference.
+type Gain = fn(&[u32], &[f32], f32, f32, f32) -> u64;
+
+/// A gain asked alone, of records that set-up left.
+fn gain(jant: u32) {
+    let mut random = Random(25);
+    let kept: Vec<Left> = (0..STATIONS)
+        .map(|_| {
+            let mut left = BLANK;
+            assert!(set_up_and_row(reference::setup, reference::row_of, &accepted(&mut random, jant), &mut left));
+            left
+        })
+        .collect();
+    let directions = [0, 1, 2, 3, 4, 5, 6, 7].map(|k| (5.0 + 11.0 * k as f32, 3.0 + 47.0 * k as f32));
+    let call = |gain: Gain| {
+        for left in &kept {
+            for (u, v) in directions {
+                black_box(black_box(gain)(&left.antenna, &left.table, u, v, 10.0));
+            }
+        }
+    };
+    let calls = STATIONS * directions.len();
+    let times = least(500, calls, [&mut |_| call(service::gain_of), &mut |_| call(reference::gain_of)]);
+    row(&format!("a gain alone, type {jant}"), times);
 }
 
 /// `hf_gains` or the reference.
@@ -102,7 +165,10 @@ pub fn run() {
         curtain("curtain, factor", 1.5, 2000, STATIONS);
         curtain("curtain, integral", -99_999.0, 20, 4);
     }
-    (1..=9).for_each(set_up_and_row);
+    why();
+    (1..=9).for_each(|jant| rows(jant, false));
+    (1..=4).for_each(|jant| rows(jant, true));
+    (1..=9).for_each(gain);
     gains();
     plate();
 }

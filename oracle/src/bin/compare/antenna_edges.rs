@@ -1,4 +1,5 @@
 //! The antennas' edges that document 01 states: its own numbers, held against the oracle and against the proved library.
+use oracle::antennas::{SetUp, ANTENNA, FOUND};
 use oracle::expected::{Gains, ROW, TABLE};
 use oracle::reference;
 use oracle::report::Comparison;
@@ -6,7 +7,7 @@ use oracle::service;
 
 type Maxgain = fn(u32, &[f32], &mut [u32]) -> u32;
 type Curtain = fn(&[f32], f32, f32, f32) -> u64;
-type Row = fn(&[f32], &mut [f32], f32, f32, &mut [f32], &mut [u32]) -> u32;
+type Row = fn(&[u32], &[f32], f32, f32, &mut [f32]) -> u64;
 
 const MINUS_30: u32 = 0xc1f0_0000;
 
@@ -85,22 +86,26 @@ fn roundings(name: &str, curtain: Curtain) -> Comparison {
 }
 
 /// Case P is silent throughout, its table +0, its row -30; a type 1 with slot 11 at 0 is refused as 9.
-fn row(name: &str, row: Row) -> Comparison {
+fn row(name: &str, set_up: SetUp, row: Row) -> Comparison {
     let mut found = Comparison::new(format!("edges of set-up and row, {name}"));
     let mut p = parm(&[(1, 5.0), (2, 4.0), (3, 0.001), (4, 10.0), (5, 2.0), (6, 40.0), (7, 80.0)]);
     p[8..11].fill(10.0);
     let unreflected =
         parm(&[(1, 1.0), (2, 4.0), (3, 0.001), (4, 10.0), (5, 2.0), (6, 2.0), (7, 10.0), (8, 0.5), (10, 0.3), (12, 2.0)]);
     let answer = |parm: &[f32; 20]| {
-        let (mut table, mut numbers, mut out) = ([1.0; TABLE], [1.0; ROW], [1; 5]);
-        let code = row(parm, &mut table, 10.0, 5.0, &mut numbers, &mut out);
-        (code, out, numbers.map(f32::to_bits), table.iter().all(|x| x.to_bits() == 0))
+        let (mut table, mut antenna, mut numbers, mut out) = ([1.0; TABLE], [0; ANTENNA], [1.0; ROW], [1; FOUND]);
+        let code = set_up(parm, &mut table, &mut antenna, &mut out);
+        let front_to_back = row(&antenna, &table, 5.0, 10.0, &mut numbers);
+        (code, out, front_to_back, numbers.map(f32::to_bits), table.iter().all(|x| x.to_bits() == 0))
     };
-    let silent = (0, [90, 0, 90f32.to_bits(), 0, 0], [MINUS_30; ROW], true);
-    let refused = (9, [1; 5], [1f32.to_bits(); ROW], false);
+    let silent = (0, [90, 0, 90f32.to_bits(), 0], 0, [MINUS_30; ROW], true);
+    // The record is left as it was, words of no type.
+    let refused = (9, [1; FOUND], 3 << 32 | 3, [1f32.to_bits(); ROW], false);
     for (parm, expected) in [(p, silent), (unreflected, refused)] {
         let got = answer(&parm);
-        found.hold(&got, &expected, || format!("{:?}, expected {:?}", (got.0, got.1), (expected.0, expected.1)));
+        found.hold(&got, &expected, || {
+            format!("{:?}, expected {:?}", (got.0, got.1, got.2), (expected.0, expected.1, expected.2))
+        });
     }
     found
 }
@@ -110,10 +115,10 @@ pub fn compare(_: u64) -> Vec<Comparison> {
         maxgain("oracle", reference::maxgain),
         curtain("oracle", reference::curtain),
         roundings("oracle", reference::curtain),
-        row("oracle", reference::row),
+        row("oracle", reference::setup, reference::row_of),
         maxgain("hf_maxgain", service::maxgain),
         curtain("hf_curtain", service::curtain),
         roundings("hf_curtain", service::curtain),
-        row("hf_row", service::row),
+        row("hf_setup and hf_plate_row", service::setup, service::row_of),
     ]
 }

@@ -1,4 +1,4 @@
-//! The curtain: `hf_curtain` against `curtain::gain` of the source.
+//! The curtain: `hf_curtain` against `curtain::gain` of the source, and `hf_curtain_factor` against its integral.
 use crate::cases::{hex, run};
 use oracle::random::Random;
 use oracle::report::Comparison;
@@ -76,4 +76,30 @@ pub fn compare(count: u64) -> Vec<Comparison> {
         run("hf_curtain", 12, count, with_factor).owing(&owed),
         run("hf_curtain, integral", 13, count / 100, with_integral).owing(&["level"]),
     ]
+}
+
+/// A curtain, at times with broken slots; many have no bay or no stack, and an integral of 0. Asked with the factor it answers what
+/// it answers with the integral.
+fn factor_found(random: &mut Random, found: &mut Comparison) {
+    let mut parm = stations::curtain(random);
+    match random.below(8) {
+        0 => parm = stations::damaged(random, parm, 5),
+        1 => parm[14] = stations::odd(random),
+        _ => {}
+    }
+    let parm = &parm[..if random.below(20) == 0 { 19 } else { 20 }];
+    let (got, expected) = (service::curtain_factor(parm), reference::curtain_factor(parm));
+    found.met(if expected >> 32 == 0 { "factor".into() } else { format!("refused {}", expected as u32) });
+    found.hold(&got, &expected, || format!("{}: {got:X}, expected {expected:X}", hex(parm)));
+    if got >> 32 == 0 {
+        let (azimuth, elevation, factor) = (azimuth(random), elevation(random), f32::from_bits(got as u32));
+        let asked = [factor, INTEGRATE].map(|factor| service::curtain(parm, azimuth, elevation, factor));
+        let aim = [azimuth, elevation, factor];
+        found.hold(&asked[0], &asked[1], || format!("{} at {}: {:X}, expected {:X}", hex(parm), hex(&aim), asked[0], asked[1]));
+    }
+}
+
+pub fn compare_factor(count: u64) -> Vec<Comparison> {
+    let owed = ["factor", "refused 2", "refused 5", "refused 7", "refused 8", "refused 10"];
+    vec![run("hf_curtain_factor", 60, count, factor_found).owing(&owed)]
 }

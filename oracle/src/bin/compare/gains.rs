@@ -13,7 +13,7 @@ struct Case {
 }
 
 /// Degrees of every kind: whole, fractions, beside the folds, negative, huge, broken.
-fn angle(random: &mut Random, high: f32) -> f32 {
+pub fn angle(random: &mut Random, high: f32) -> f32 {
     match random.below(10) {
         0 => stations::odd(random),
         1 => f32::from_bits((90.0 * random.below(7) as f32).to_bits().saturating_add(random.below(3) as u32).saturating_sub(1)),

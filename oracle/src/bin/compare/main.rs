@@ -4,6 +4,8 @@
 #![cfg_attr(not(source), allow(dead_code))]
 #[cfg(source)]
 mod antenna_edges;
+#[cfg(source)]
+mod antennas;
 mod board;
 mod books;
 mod calendar;
@@ -25,9 +27,9 @@ mod plates;
 mod readings;
 #[cfg(source)]
 mod records;
-#[cfg(source)]
-mod rows;
 mod stored;
+#[cfg(source)]
+mod whys;
 
 use oracle::report::{finish, Comparison};
 
@@ -53,7 +55,11 @@ const CALLS: &[Call] = &[
     #[cfg(source)]
     ("readings", 20_000, readings::compare),
     #[cfg(source)]
-    ("row", 10_000, rows::compare),
+    ("setup", 10_000, antennas::set_ups),
+    #[cfg(source)]
+    ("gain", 100_000, antennas::gains),
+    #[cfg(source)]
+    ("plate_row", 10_000, antennas::rows),
     #[cfg(source)]
     ("record", 300_000, records::compare),
     #[cfg(source)]
@@ -61,6 +67,10 @@ const CALLS: &[Call] = &[
     ("book", 200_000, books::compare),
     ("levels", 100_000, levels::compare),
     ("board", 500, board::compare),
+    #[cfg(source)]
+    ("why", 300_000, whys::compare),
+    #[cfg(source)]
+    ("curtain_factor", 300, curtains::compare_factor),
 ];
 
 /// A word of the command line: a call, with its number of cases or the gate's.

@@ -4,16 +4,19 @@ use borrow.Author.Needs.{needs}
 use Rattle.curtain.proofs.level.factor_of.Statement.{statement}
 use Rattle.curtain.proofs.level.factor_of.Tie as tie
 
+curtain-of-requires : tie.Need-curtain-of-requires
+curtain-of-requires c κs = search needs
+
 dbltrap-requires : tie.Need-dbltrap-requires
 dbltrap-requires c κs = search needs
 
 returns : tie.Need-returns
 unfolding factorOf
-returns c = simp (c .before .if1 .taken, c .dbltrap .ensures)
+returns c = simp (c .before .before .if1 .taken, c .dbltrap .ensures, c .before .curtain-of .ensures .0)
 
 returns-2 : tie.Need-returns-2
 unfolding factorOf
 returns-2 c = simp (c .if1 .left)
 
 pub factor-of-spec : {M : Type 1} → statement M
-factor-of-spec = tie.close (tie.spec dbltrap-requires returns returns-2)
+factor-of-spec = tie.close (tie.spec curtain-of-requires dbltrap-requires returns returns-2)

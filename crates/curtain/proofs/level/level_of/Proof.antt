@@ -4,17 +4,14 @@ use borrow.Author.Needs.{needs}
 use Rattle.curtain.proofs.level.level_of.Statement.{statement}
 use Rattle.curtain.proofs.level.level_of.Tie as tie
 
-curtain-of-requires : tie.Need-curtain-of-requires
-curtain-of-requires c κs = search needs
-
 factor-of-requires : tie.Need-factor-of-requires
 factor-of-requires c κs = search needs
 
 fold-requires : tie.Need-fold-requires
 fold-requires c κs = search needs
 
-f2-requires : tie.Need-f2-requires
-f2-requires c κs = search needs
+f2-of-requires : tie.Need-f2-of-requires
+f2-of-requires c κs = search needs
 
 decibels-requires : tie.Need-decibels-requires
 decibels-requires c κs = search needs
@@ -24,20 +21,19 @@ behind-requires c κs = search needs
 
 returns : tie.Need-returns
 unfolding levelOf
-returns c = simp (← c .before .before .before .before .before .before .curtain-of .ensures .0, ← c .before .before .before .before .before .factor-of .ensures, ← c .before .before .before .before .fold .ensures, ← c .before .before .before .f2 .ensures, ← c .before .before .decibels .ensures, ← c .before .behind .ensures, c .if1 .taken)
+returns c = simp (← c .before .before .before .before .before .factor-of .ensures, ← c .before .before .before .before .fold .ensures, ← c .before .before .before .f2-of .ensures, ← c .before .before .decibels .ensures, ← c .before .behind .ensures, c .if1 .taken)
 
 returns-2 : tie.Need-returns-2
 unfolding levelOf
-returns-2 c = simp (← c .before .before .before .before .before .before .curtain-of .ensures .0, ← c .before .before .before .before .before .factor-of .ensures, ← c .before .before .before .before .fold .ensures, ← c .before .before .before .f2 .ensures, ← c .before .before .decibels .ensures, ← c .before .behind .ensures, c .if1 .left)
+returns-2 c = simp (← c .before .before .before .before .before .factor-of .ensures, ← c .before .before .before .before .fold .ensures, ← c .before .before .before .f2-of .ensures, ← c .before .before .decibels .ensures, ← c .before .behind .ensures, c .if1 .left)
 
 pub level-of-spec : {M : Type 1} → statement M
 level-of-spec =
     tie.close
     (tie.spec
-    curtain-of-requires
     factor-of-requires
     fold-requires
-    f2-requires
+    f2-of-requires
     decibels-requires
     behind-requires
     returns

@@ -37,8 +37,8 @@ mul-fyr c = search needs
 element-copy-out-fyr : tie.Need-element-copy-out-fyr Inv-loop μ-loop
 element-copy-out-fyr c = search needs
 
-cos-requires : tie.Need-cos-requires Inv-loop μ-loop
-cos-requires c κs = search needs
+cos-at-requires : tie.Need-cos-at-requires Inv-loop μ-loop
+cos-at-requires c κs = search needs
 
 mul-fyi : tie.Need-mul-fyi Inv-loop μ-loop
 mul-fyi c = search needs
@@ -46,8 +46,8 @@ mul-fyi c = search needs
 element-copy-out-fyi : tie.Need-element-copy-out-fyi Inv-loop μ-loop
 element-copy-out-fyi c = search needs
 
-sin-requires : tie.Need-sin-requires Inv-loop μ-loop
-sin-requires c κs = search needs
+sin-at-requires : tie.Need-sin-at-requires Inv-loop μ-loop
+sin-at-requires c κs = search needs
 
 add-i : tie.Need-add-i Inv-loop μ-loop
 add-i c = search needs
@@ -57,7 +57,7 @@ loop-less c = search needs
 
 loop-again : tie.Need-loop-again Inv-loop μ-loop
 unfolding bayCosines baySines arg
-loop-again c = (rw (add-one, c .before .before .cos .ensures, c .before .before .before .before .before .before .before .loop .inv .0), rw (add-one, c .sin .ensures, c .before .before .before .before .before .before .before .loop .inv .1), omega arith)
+loop-again c = (rw (add-one, c .before .before .cos-at .ensures, c .before .before .before .before .before .before .before .loop .inv .0), rw (add-one, c .sin-at .ensures, c .before .before .before .before .before .before .before .loop .inv .1), omega arith)
 
 returns : tie.Need-returns Inv-loop μ-loop
 unfolding bayPower
@@ -76,10 +76,10 @@ bay-power-spec =
     element-copy-out-arg-2
     mul-fyr
     element-copy-out-fyr
-    cos-requires
+    cos-at-requires
     mul-fyi
     element-copy-out-fyi
-    sin-requires
+    sin-at-requires
     add-i
     loop-less
     loop-again

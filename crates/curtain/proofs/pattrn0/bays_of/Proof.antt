@@ -10,7 +10,7 @@ use mir.ValLaws.{toZ-ofZ}
 use Rattle.floats.specs.Ops.{_⊗_, count}
 use Rattle.floats.specs.Filled.{filledTo}
 use Rattle.curtain.specs.Pattrn0.{bayPhases, bayRatios, bayPlaces}
-use Rattle.curtain.proofs.pattrn0.Counts.{few}
+use Rattle.curtain.proofs.Few.{few}
 use Rattle.curtain.proofs.pattrn0.bays_of.Statement.{statement}
 use Rattle.curtain.proofs.pattrn0.bays_of.Tie as tie
 

@@ -6,7 +6,7 @@ use native.Mathlib.Omega.{arith}
 use borrow.Author.Needs.{needs}
 use Rattle.floats.specs.Filled.{filledTo}
 use Rattle.curtain.specs.Pattrn0.{stackRatios, stackHeights}
-use Rattle.curtain.proofs.pattrn0.Counts.{few}
+use Rattle.curtain.proofs.Few.{few}
 use Rattle.curtain.proofs.pattrn0.stacks_of.Statement.{statement}
 use Rattle.curtain.proofs.pattrn0.stacks_of.Tie as tie
 

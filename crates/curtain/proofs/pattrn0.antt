@@ -1,2 +1,0 @@
--- What the proofs of `stacks_of` and `bays_of` share.
-mod Counts
