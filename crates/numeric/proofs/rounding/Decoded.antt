@@ -51,3 +51,10 @@ decoded (fin s m e) f t =
       full = g .3 .1;
       few = omega (arith, mod-lt b (pow-pos 31));
     }))
+
+-- from the field 1 on, the first of 24 digits is 1
+pub decoded-normal : (x : Float) → T (fits binary32 x) → T (finite x) → let b = toBits binary32 x % 2 ^ 31 in 1 ≤ b / 2 ^ 23 → Stepped x (b % 2 ^ 23 + 2 ^ 23) (b / 2 ^ 23 - 1)
+decoded-normal x f t h =
+    let b = toBits binary32 x % 2 ^ 31 in
+    let e : b - (b / 2 ^ 23 - 1) * 2 ^ 23 ≡ b % 2 ^ 23 + 2 ^ 23 = omega arith in
+    subst (λ (m : ℕ). Stepped x m (b / 2 ^ 23 - 1)) e (decoded x f t)
