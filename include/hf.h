@@ -66,6 +66,7 @@ enum hf_size {
   HF_ROW = 360,           /* floats: a plate row, azimuths 0 to 359 */
   HF_MAXGAIN_FLOATS = 58, /* parm, gainmax (2 rows of 3), gainmaxb (30), operating MHz, design MHz */
   HF_MAXGAIN_OUT = 21,    /* words: the gain, parm */
+  HF_PREVIEW = 7,         /* words: the gain, then slots 4, 5 and 7, each with a mark */
   HF_RECORD = 225,        /* bytes: a station record */
   HF_STATION = 57,        /* words: mode, parm, gainmax, gainmaxb */
   HF_PLATE_INPUT = 237,   /* bytes: a record, MHz, design MHz, elevation */
@@ -91,6 +92,12 @@ uint32_t hf_leaf(uint32_t which, uint32_t a, uint32_t b);
  * gainmax (2 rows of 3), gainmaxb (30), operating MHz, design MHz. out, HF_MAXGAIN_OUT words: the gain's bits, then the bits of parm
  * as set-up should be given it. Returns 0 or the refusal (2, 3, 4, 5, 10; 8 first where floats or out hasn't its size). */
 uint32_t hf_maxgain(uint32_t mode, const float *floats, size_t floats_len, uint32_t *out, size_t out_len);
+
+/* What hf_maxgain would do with the same mode and floats, which are not written. out, HF_PREVIEW words: the gain's bits, then for
+ * slots 4, 5 and 7 of parm in turn 1 where it would be written (also with the bits that it has) or 0 where it would be kept, and
+ * the bits that it would hold. Mode 0 writes none of them, mode 1 slots 4 and 7, and slot 5 for type 8, mode 2 slot 4. Returns 0 or
+ * hf_maxgain's refusal (8 first where floats or out hasn't its size). */
+uint32_t hf_preview(uint32_t mode, const float *floats, size_t floats_len, uint32_t *out, size_t out_len);
 
 /* Sets up the antenna, then answers each direction, a pair of elevation and azimuth; giso is the maximum gain. out, HF_FOUND words
  * as hf_setup has them, then for each pair an hf_kind and the bits of the gain in dBi (or the refusal). Returns 0 or set-up's refusal

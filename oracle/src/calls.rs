@@ -110,4 +110,5 @@ pub const CALLS: &[Call] = calls! {
     why(parm: Floats)
     curtain_why(parm: Floats)
     curtain_factor(parm: Floats)
+    preview(mode: Word, floats: Floats, out: LentWords)
 };

@@ -45,7 +45,7 @@ fn file_of(parm: Parm, mode: u32) -> AntennaFile {
 }
 
 /// The type, where it is one of 1..9.
-fn type_of(parm: &Parm) -> Result<i32, Refusal> {
+pub fn type_of(parm: &Parm) -> Result<i32, Refusal> {
     let jant = file_of(*parm, 0).jant();
     refuse_if(!(1..=9).contains(&jant), TYPE)?;
     Ok(jant)
@@ -80,6 +80,14 @@ impl Gains {
     pub fn floats(&self) -> Vec<f32> {
         let rows = self.gainmax.iter().flatten();
         self.parm.iter().chain(rows).chain(&self.gainmaxb).chain([&self.mhz, &self.design]).copied().collect()
+    }
+
+    /// With the parameters as the call leaves them: asked again, it writes the bits that are there.
+    pub fn settled(self) -> Self {
+        match maxgain(&self) {
+            Ok((_, parm)) => Gains { parm, ..self },
+            Err(_) => self,
+        }
     }
 }
 

@@ -20,6 +20,7 @@ pub mod lists;
 pub mod plain;
 #[cfg(source)]
 pub mod plate;
+pub mod preview;
 pub mod random;
 pub mod record;
 pub mod records;

@@ -4,7 +4,7 @@ use crate::antennas::{ANTENNA, FOUND};
 use crate::board::{self, LEAVES};
 use crate::calendar::walk;
 use crate::calls::{Call, Value, CALLS};
-use crate::expected::{ROW, TABLE};
+use crate::expected::{Gains, ROW, TABLE};
 use crate::impostor;
 use crate::impostors::{Impostor, IMPOSTORS};
 use crate::leaf::{NAMES, POWF};
@@ -48,6 +48,7 @@ fn inputs_of(call: &Call) -> (u64, Inputs) {
         "why" => (150, why),
         "curtain_why" => (60, curtain_why),
         "curtain_factor" => (24, curtain_factor),
+        "preview" => (120, preview),
         name => panic!("{name} has no inputs"),
     }
 }
@@ -108,6 +109,19 @@ fn maxgain(random: &mut Random, k: u64) -> Vec<Value> {
     };
     floats.truncate(n);
     vec![Value::Word(mode), Value::Floats(floats), lent_words(lent)]
+}
+
+/// What `maxgain` is given; one in three with the bits that the call would write.
+fn preview(random: &mut Random, k: u64) -> Vec<Value> {
+    let lent = if k % 40 == 39 { random.pick(&[0, 6, 8]) } else { 7 };
+    let mut given = maxgain(random, k);
+    given[2] = lent_words(lent);
+    if let ([Value::Word(mode), Value::Floats(floats), _], 1) = (&mut given[..], k / 3 % 3) {
+        if let Ok(whole) = floats[..].try_into() {
+            *floats = Gains::new(*mode, whole).settled().floats();
+        }
+    }
+    given
 }
 
 /// One in a hundred integrates.

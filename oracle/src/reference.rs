@@ -8,7 +8,7 @@ pub use crate::calendar::{next_season, open, season};
 pub use crate::leaf::by_rules as leaf;
 pub use crate::levels::show as levels;
 pub use crate::why::{curtain_why, why};
-use crate::{board, levels as strengths, record};
+use crate::{board, levels as strengths, preview as slots, record};
 
 /// The refusal's number, or 0.
 fn code(answer: Result<(), Refusal>) -> u32 {
@@ -30,6 +30,25 @@ fn try_maxgain(mode: u32, floats: &[f32], out: &mut [u32]) -> Result<(), Refusal
 
 pub fn maxgain(mode: u32, floats: &[f32], out: &mut [u32]) -> u32 {
     code(try_maxgain(mode, floats, out))
+}
+
+/// The real call on a copy of the parameters, and of each slot what it holds then or held before.
+fn try_preview(mode: u32, floats: &[f32], out: &mut [u32]) -> Result<(), Refusal> {
+    let out: &mut [u32; 7] = out.try_into().map_err(|_| SPACE)?;
+    let floats: &[f32; 58] = floats.try_into().map_err(|_| SPACE)?;
+    let given = Gains::new(mode, floats);
+    let (gain, after) = expected::maxgain(&given)?;
+    let marks = slots::marks(mode, expected::type_of(&given.parm)?);
+    out[0] = gain.to_bits();
+    for (words, (slot, written)) in out[1..].chunks_mut(2).zip(marks) {
+        let shown = if written { after[slot] } else { given.parm[slot] };
+        words.copy_from_slice(&[u32::from(written), shown.to_bits()]);
+    }
+    Ok(())
+}
+
+pub fn preview(mode: u32, floats: &[f32], out: &mut [u32]) -> u32 {
+    code(try_preview(mode, floats, out))
 }
 
 /// A number's bits, or kind 3 and the refusal's number.

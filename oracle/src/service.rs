@@ -7,6 +7,7 @@ mod raw {
     extern "C" {
         pub fn hf_leaf(which: u32, a: u32, b: u32) -> u32;
         pub fn hf_maxgain(mode: u32, floats: *const f32, floats_len: usize, out: *mut u32, out_len: usize) -> u32;
+        pub fn hf_preview(mode: u32, floats: *const f32, floats_len: usize, out: *mut u32, out_len: usize) -> u32;
         pub fn hf_curtain(parm: *const f32, parm_len: usize, azimuth: f32, elevation: f32, factor: f32) -> u64;
         pub fn hf_gains(
             parm: *const f32,
@@ -81,6 +82,11 @@ pub fn leaf(which: u32, a: u32, b: u32) -> u32 {
 pub fn maxgain(mode: u32, floats: &[f32], out: &mut [u32]) -> u32 {
     // SAFETY: the pointers and lengths are those of live slices, and one borrowed mutably overlaps no other; so in all calls below.
     unsafe { raw::hf_maxgain(mode, floats.as_ptr(), floats.len(), out.as_mut_ptr(), out.len()) }
+}
+
+pub fn preview(mode: u32, floats: &[f32], out: &mut [u32]) -> u32 {
+    // SAFETY: as above.
+    unsafe { raw::hf_preview(mode, floats.as_ptr(), floats.len(), out.as_mut_ptr(), out.len()) }
 }
 
 pub fn curtain(parm: &[f32], azimuth: f32, elevation: f32, factor: f32) -> u64 {

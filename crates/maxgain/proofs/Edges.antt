@@ -1,12 +1,10 @@
 -- Document 01's starred edges of the maximum gain, computed from the definitions.
-use mathlib.Core.Path.{_≡_, refl, ap, _∙_}
-use mathlib.Core.Bool.{Bool, true, false, cond, not}
+use mathlib.Core.Path.{_≡_, refl, ap}
+use mathlib.Core.Bool.{not}
 use mathlib.Core.List.{List}
-use native.Mathlib.Omega.{arith}
 use lib.Dec.{ltb, eqb}
-use lib.ListN.{length, set, length-set}
-use lib.Seq.{getD-set-same, getD-set-other}
-use lib.Ieee.{Float, nan, binary32, add, sub, div, lt, le, eq, round, ofBits, ofInt, toUnsigned}
+use lib.ListN.{length}
+use lib.Ieee.{Float, binary32, add, sub, div, lt, le, eq, round, ofBits, ofInt, toUnsigned}
 use lib.Ieee.Fits.{sub-fits}
 use Rattle.floats.specs.Ops.{_⊕_, _⊖_, count, at}
 use Rattle.floats.specs.Literals.{one, ten, thirty, thirtyOne}
@@ -20,24 +18,11 @@ use Rattle.model.specs.Types.{jantOf}
 use Rattle.maxgain.specs.Interpolation.{lowerMhz, gainTerB}
 use Rattle.maxgain.specs.Refusals.{refusalOf}
 use Rattle.maxgain.specs.Maximum.{usable, designed, tuned, tunedSlots, byRatio, found, graded, setMaxGain}
+use Rattle.maxgain.proofs.Slots.{slot-4, slot-7}
 
 tuned-at-31 : tuned thirtyOne one ≡ record { foper = ten; fdesign = ten }
 unfolding tuned usable designed between ofBits le lt eq div round
 tuned-at-31 = refl
-
--- slots 4 and 7 as mode 1 writes them, whether type 8's slot 5 is written too or not
-module _ (parm : List Float) (f d : Float) (e : length parm ≡ 20) where
-  abbrev both : List Float
-  both = set (set parm 4 f) 7 d
-
-  alone : (at both 4 ≡ f) × (at both 7 ≡ d)
-  alone =
-      let q = set parm 4 f in
-      (getD-set-other q 7 4 d nan (λ n. omega arith) ∙ getD-set-same parm 4 f nan (omega arith), getD-set-same q 7 d nan (rw length-set (omega arith)))
-
-  written : (eight : Bool) → let q = cond eight (set both 5 d) both in (at q 4 ≡ f) × (at q 7 ≡ d)
-  written true = (getD-set-other both 5 4 d nan (λ n. omega arith) ∙ alone .0, getD-set-other both 5 7 d nan (λ n. omega arith) ∙ alone .1)
-  written false = alone
 
 -- mode 1, 31 MHz, design 1: 10 and 10, in slots 4 and 7
 pub mode-1-at-31 : (parm gainmax gainmaxb : List Float) → length parm ≡ 20 → {giso : Float} {p : List Float}
@@ -49,7 +34,9 @@ mode-1-at-31 parm gainmax gainmaxb e {giso} {p} h =
     let f = byRatio parm (jantOf (at parm 1)) gainmax t in
     let answered : _≡_ {A = Float × List Float} (f .gain, f .parm) (giso, p) = same (passed (not (finite (f .gain))) LEVEL _ (passed (ltb 0 number) number _ h .1) .1) in
     let same-parm : f .parm ≡ p = ap (λ (m : Float × List Float). m .1) answered in
-    rw tuned-at-31 at (rw same-parm at (written parm (t .foper) (t .fdesign) e (eqb (jantOf (at parm 1)) 8)))
+    let eight = eqb (jantOf (at parm 1)) 8 in
+    let slots : (at (f .parm) 4 ≡ t .foper) × (at (f .parm) 7 ≡ t .fdesign) = (slot-4 parm (t .foper) (t .fdesign) e eight, slot-7 parm (t .foper) (t .fdesign) e eight) in
+    rw tuned-at-31 at (rw same-parm at slots)
 
 lower-at-30 : lowerMhz thirty ≡ 29
 unfolding lowerMhz toUnsigned ofBits

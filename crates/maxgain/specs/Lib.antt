@@ -3,3 +3,5 @@ pub mod Literals
 pub mod Interpolation
 pub mod Refusals
 pub mod Maximum
+pub mod Preview
+pub mod PreviewLaw

@@ -3,6 +3,7 @@ pub mod Lists
 pub mod Packed
 pub mod Leaf
 pub mod Maximum
+pub mod Preview
 pub mod Curtain
 pub mod Book
 pub mod Search

@@ -11,6 +11,7 @@ mod lent;
 pub mod maximum;
 mod packed;
 pub mod plates;
+pub mod preview;
 pub mod record;
 mod search;
 pub mod strengths;

@@ -12,21 +12,45 @@ fn row(name: &str, [rattle, rust]: [f64; 2]) {
     println!("| {name:29} | {:9.2} | {:9.2} | {:5.2} |", rattle / 1000.0, rust / 1000.0, rattle / rust);
 }
 
-fn maxgain(mode: u32) {
+/// The 58 floats of stations whose maximum gain is looked for by this mode.
+fn gain_inputs(mode: u32, jant: u32) -> Vec<Vec<f32>> {
     let mut random = Random(21);
-    let mut floats = || {
-        let (parm, mhz) = (stations::realistic(&mut random, 2), random.between(2.0, 30.0));
+    let floats = |_| {
+        let (parm, mhz) = (stations::realistic(&mut random, jant), random.between(2.0, 30.0));
         let (gainmax, gainmaxb) = ([[10.0, 12.0, 11.0], [13.0, 15.0, 14.0]], [11.0; 30]);
         expected::Gains { mode, parm, gainmax, gainmaxb, mhz, design: 1.1 }.floats()
     };
-    let stations: Vec<Vec<f32>> = (0..STATIONS).map(|_| floats()).collect();
-    let call = |maxgain: fn(u32, &[f32], &mut [u32]) -> u32| {
-        let mut out = [0; 21];
-        stations.iter().for_each(|f| assert!(black_box(maxgain)(mode, f, &mut out) == 0));
-    };
+    (0..STATIONS).map(floats).collect()
+}
+
+/// `hf_maxgain`, `hf_preview` or the reference, into N words.
+fn each<const N: usize>(call: fn(u32, &[f32], &mut [u32]) -> u32, mode: u32, stations: &[Vec<f32>]) {
+    let mut out = [0; N];
+    stations.iter().for_each(|f| assert!(black_box(call)(mode, f, &mut out) == 0));
+}
+
+fn maxgain(mode: u32) {
+    let stations = gain_inputs(mode, 2);
     row(
         &format!("maximum gain, mode {mode}"),
-        least(2000, STATIONS, [&mut |_| call(service::maxgain), &mut |_| call(reference::maxgain)]),
+        least(
+            2000,
+            STATIONS,
+            [&mut |_| each::<21>(service::maxgain, mode, &stations), &mut |_| each::<21>(reference::maxgain, mode, &stations)],
+        ),
+    );
+}
+
+/// Card 2 beside the call that it previews.
+fn preview(mode: u32, jant: u32) {
+    let stations = gain_inputs(mode, jant);
+    row(
+        &format!("preview, mode {mode}, type {jant}"),
+        least(
+            2000,
+            STATIONS,
+            [&mut |_| each::<7>(service::preview, mode, &stations), &mut |_| each::<21>(service::maxgain, mode, &stations)],
+        ),
     );
 }
 
@@ -171,4 +195,6 @@ pub fn run() {
     (1..=9).for_each(gain);
     gains();
     plate();
+    println!("\n| call | preview µs | maximum gain µs | ratio |\n|---|---|---|---|");
+    [(0, 2), (1, 2), (1, 8), (2, 2)].into_iter().for_each(|(mode, jant)| preview(mode, jant));
 }

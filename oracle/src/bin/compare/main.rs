@@ -24,6 +24,8 @@ mod maxgain;
 #[cfg(source)]
 mod plates;
 #[cfg(source)]
+mod preview;
+#[cfg(source)]
 mod readings;
 #[cfg(source)]
 mod records;
@@ -48,6 +50,8 @@ const CALLS: &[Call] = &[
     ("calendar", 1_000_000, calendar::compare),
     #[cfg(source)]
     ("maxgain", 300_000, maxgain::compare),
+    #[cfg(source)]
+    ("preview", 1_000_000, preview::compare),
     #[cfg(source)]
     ("curtain", 30_000, curtains::compare),
     #[cfg(source)]

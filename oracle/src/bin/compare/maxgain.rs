@@ -45,7 +45,7 @@ fn gain(random: &mut Random, wild: u64) -> f32 {
     }
 }
 
-fn given(random: &mut Random) -> Gains {
+pub fn given(random: &mut Random) -> Gains {
     let (mode, mhz, wild) = (mode(random), mhz(random), random.below(20));
     let parm = stations::station(random);
     let gainmax = std::array::from_fn(|_| std::array::from_fn(|_| gain(random, wild)));
@@ -53,17 +53,17 @@ fn given(random: &mut Random) -> Gains {
     Gains { mode, parm, gainmax, gainmaxb, mhz, design: design(random, mhz) }
 }
 
-/// The floats in their order; now and then one too many or too few, and so with the words.
-fn lengths(random: &mut Random) -> (usize, usize) {
+/// The numbers of floats and of words; now and then one too many or too few.
+pub fn lengths(random: &mut Random, words: usize) -> (usize, usize) {
     match random.below(400) {
-        0 => (random.pick(&[0, 20, 57, 59]), 21),
-        1 => (58, random.pick(&[0, 1, 20, 22])),
-        _ => (58, 21),
+        0 => (random.pick(&[0, 20, 57, 59]), words),
+        1 => (58, random.pick(&[0, 1, words - 1, words + 1])),
+        _ => (58, words),
     }
 }
 
 fn one(random: &mut Random, found: &mut Comparison) {
-    let (given, (floats_len, words)) = (given(random), lengths(random));
+    let (given, (floats_len, words)) = (given(random), lengths(random, 21));
     let (mode, mut floats) = (given.mode, given.floats());
     floats.resize(floats_len, 1.0);
     let (mut out, mut expected_out) = (vec![LEFT; words], vec![LEFT; words]);
