@@ -1,9 +1,10 @@
 // The search for the pattern's maximum, `azmax` and `gainorm`, with the count of its readings.
-// The elevation pass has its 90 gains from `up`, which copies the antenna's model once; the azimuth
-// passes, of 11 to 21 readings, call `gainrel` in their own loops, which copies it once a reading.
+// The elevation pass has its 90 gains from `up`; an azimuth pass takes the aspect of its elevation
+// once and reads the antenna's model in place, which a call by value would copy for each reading.
 use crate::record::Peak;
 use model::record::Model;
-use pattern::gainrel::gainrel;
+use pattern::aspect::aspect_at;
+use pattern::aspect::reading;
 use pattern::passes::up;
 ghost use mathlib.Core.Path.{_≡_};
 ghost use Prim.Native.Nat.{_+_, _<_, _≤_, _^_};
@@ -128,10 +129,23 @@ fn azmax_turns(m: Model, table: &[f32], u: f32, vm: f32, s: Azimuths, count: u32
     ensures { λ r. ⌜ r ≡ turns (azmaxTurn m (now (table .entry)) u vm) s count ⌝ }
     ensures { λ r. ⌜ r .tally .readings ≡ s .tally .readings + count ⌝ }
 {
+    let seen = aspect_at(m, u);
     let mut out = s;
     let mut i: u32 = 0;
     while i < count {
-        let z9 = gainrel(m, table, u, out.v);
+        let z9 = reading(
+            seen,
+            &m.trig.a,
+            &m.trig.b,
+            &m.elements.iek,
+            &m.elements.fi,
+            &m.elements.rim,
+            &m.elements.x,
+            &m.elements.y,
+            &m.elements.rl,
+            table,
+            out.v,
+        );
         out = azmax_read(out, vm, z9);
         i += 1;
     }
@@ -190,6 +204,7 @@ fn sweep(m: Model, table: &[f32], u: f32, vmax: f32) -> Azimuths
     ensures { λ r. ⌜ r ≡ sweepOf m (now (table .entry)) u vmax ⌝ }
     ensures { λ r. ⌜ r .tally .readings ≡ 19 ⌝ }
 {
+    let seen = aspect_at(m, u);
     let tally = no_tally();
     let mut out = Azimuths {
         rmax: 0.0,
@@ -200,7 +215,19 @@ fn sweep(m: Model, table: &[f32], u: f32, vmax: f32) -> Azimuths
     };
     let mut i: u32 = 0;
     while i < 19 {
-        let z9 = gainrel(m, table, u, out.v);
+        let z9 = reading(
+            seen,
+            &m.trig.a,
+            &m.trig.b,
+            &m.elements.iek,
+            &m.elements.fi,
+            &m.elements.rim,
+            &m.elements.x,
+            &m.elements.y,
+            &m.elements.rl,
+            table,
+            out.v,
+        );
         out = sweep_read(out, z9);
         i += 1;
     }

@@ -7,6 +7,7 @@ use Rattle.model.specs.declared.record.Constants.{Constants}
 use Rattle.model.specs.declared.record.Elements.{Elements}
 use Rattle.model.specs.declared.record.Factors.{Factors}
 use Rattle.model.specs.declared.record.Model.{Model}
+use Rattle.model.specs.declared.record.Trig.{Trig}
 use Rattle.pattern.specs.Gainrel.{factorsIn}
 use Rattle.pattern.specs.declared.aspect.Aspect.{Aspect}
 use Rattle.pattern.specs.declared.boom.Element.{Element}
@@ -17,6 +18,10 @@ aspectBy iant k nat w iu = record { iant = iant; k = k; nat = nat; iu = iu; w = 
 -- what a pattern reads of the elevation iu
 unfoldable pub aspectOf : Model → ℕ → Aspect
 aspectOf m iu = aspectBy (m .iant) (m .constants) (m .elements .nat) (factorsIn (m .ground) iu) iu
+
+-- the sines and cosines by their tables
+abbrev pub trigBy : List Float → List Float → Trig
+trigBy a b = record { a = a; b = b }
 
 -- element i, and all of them, by their lists
 abbrev pub elementBy : List Float → List Float → List Float → List Float → List Float → ℕ → Element

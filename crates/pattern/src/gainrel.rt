@@ -1,8 +1,6 @@
 // `gainrel`: the relative gain at an elevation and an azimuth, in degrees.
 use crate::aspect::aspect_of;
-use crate::aspect::toward;
-use crate::azimuth::direction_of;
-use crate::azimuth::quadrant_of;
+use crate::aspect::reading;
 use floats::rounding::ifix;
 use model::record::Model;
 ghost use mathlib.Core.Path.{_≡_};
@@ -13,15 +11,13 @@ ghost use Rattle.model.specs.Table.{tableSize};
 ghost use Rattle.model.specs.Counts.{countsOk};
 ghost use Rattle.pattern.specs.Gainrel.{gainRel};
 
-// Inner step of search and gain, which refuse other records and shorter tables first. By the
+// Inner step of row and gain, which refuse other records and shorter tables first. By the
 // antenna's type; 0 of a type that is none.
 pub fn gainrel(m: Model, table: &[f32], u: f32, v: f32) -> f32
     requires { ⌜ (countsOk m ≡ true) × (tableSize ≤ length (now table)) ⌝ }
     ensures { λ r. ⌜ r ≡ gainRel m (now (table .entry)) u v ⌝ }
 {
     let k = m.constants;
-    let iu = ifix(u);
-    let d = direction_of(&m.trig.a, &m.trig.b, iu, quadrant_of(v));
     let s = aspect_of(
         m.iant,
         k,
@@ -32,10 +28,12 @@ pub fn gainrel(m: Model, table: &[f32], u: f32, v: f32) -> f32
         &m.ground.w6,
         &m.ground.w9,
         &m.ground.w10,
-        iu,
+        ifix(u),
     );
-    toward(
+    reading(
         s,
+        &m.trig.a,
+        &m.trig.b,
         &m.elements.iek,
         &m.elements.fi,
         &m.elements.rim,
@@ -43,7 +41,6 @@ pub fn gainrel(m: Model, table: &[f32], u: f32, v: f32) -> f32
         &m.elements.y,
         &m.elements.rl,
         table,
-        d,
         v,
     )
 }

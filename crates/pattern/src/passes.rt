@@ -1,6 +1,8 @@
 // The relative gains of a pass: around one elevation, and up at one azimuth. The antenna's record is
 // taken by value once a pass, and read in place for each gain.
+use crate::aspect::aspect_at;
 use crate::aspect::aspect_of;
+use crate::aspect::reading;
 use crate::aspect::toward;
 use crate::azimuth::direction_of;
 use crate::azimuth::quadrant_of;
@@ -19,27 +21,14 @@ pub fn around(m: Model, table: &[f32], u: f32, n: u16) -> [f32; 360]
     requires { ⌜ (countsOk m ≡ true) × (tableSize ≤ length (now table)) × (n ≤ 360) ⌝ }
     ensures { λ r. ⌜ r ≡ gainsAround m (now (table .entry)) u n ⌝ }
 {
-    let k = m.constants;
-    let iu = ifix(u);
-    let s = aspect_of(
-        m.iant,
-        k,
-        m.elements.nat,
-        &m.ground.w3,
-        &m.ground.w4,
-        &m.ground.w5,
-        &m.ground.w6,
-        &m.ground.w9,
-        &m.ground.w10,
-        iu,
-    );
+    let s = aspect_at(m, u);
     let mut out = [0.0f32; 360];
     let mut i: u16 = 0;
     while i < n {
-        let v = i as f32;
-        let d = direction_of(&m.trig.a, &m.trig.b, iu, quadrant_of(v));
-        out[i as usize] = toward(
+        out[i as usize] = reading(
             s,
+            &m.trig.a,
+            &m.trig.b,
             &m.elements.iek,
             &m.elements.fi,
             &m.elements.rim,
@@ -47,8 +36,7 @@ pub fn around(m: Model, table: &[f32], u: f32, n: u16) -> [f32; 360]
             &m.elements.y,
             &m.elements.rl,
             table,
-            d,
-            v,
+            i as f32,
         );
         i += 1;
     }

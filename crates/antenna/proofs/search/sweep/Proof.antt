@@ -10,16 +10,19 @@ use Rattle.antenna.proofs.search.sweep.Statement.{statement}
 use Rattle.antenna.proofs.search.sweep.Tie as tie
 
 abbrev Inv-loop : tie.InvT-loop
-Inv-loop m table u vmax out₀ i₀ out i =
+Inv-loop table u vmax m seen out₀ i₀ out i =
     (out ≡ turns (sweepTurn m table u) out₀ i) × (out .tally .readings ≡ out₀ .tally .readings + i) × (i ≤ 19)
 
 abbrev μ-loop : tie.MeasureT-loop
-μ-loop m table u vmax out₀ i₀ out i = 19 - i
+μ-loop table u vmax m seen out₀ i₀ out i = 19 - i
 
 -- no reading before the first
 none : (c : tie.After-no-tally Inv-loop μ-loop) → c .no-tally .result .readings ≡ 0
 unfolding untold
 none c = ap (λ (t : Tally). t .readings) (c .no-tally .ensures)
+
+aspect-at-requires : tie.Need-aspect-at-requires Inv-loop μ-loop
+aspect-at-requires c κs = search needs
 
 no-tally-requires : tie.Need-no-tally-requires Inv-loop μ-loop
 no-tally-requires c κs = search needs
@@ -28,11 +31,15 @@ loop-holds : tie.Need-loop-holds Inv-loop μ-loop
 unfolding turns
 loop-holds c = (refl, omega arith, omega arith)
 
-gainrel-requires : tie.Need-gainrel-requires Inv-loop μ-loop
-gainrel-requires c κs = search needs
+reading-requires : tie.Need-reading-requires Inv-loop μ-loop
+reading-requires c κs =
+    let seen = c .before .before .before .before .before .before .before .before .before .before .before .before in
+    let p = seen .before .before .pre in
+    let b = seen .aspect-at .ensures .1 (p .0) in
+    (b .0, b .1, b .2, p .1)
 
 sweep-read-requires : tie.Need-sweep-read-requires Inv-loop μ-loop
-sweep-read-requires c κs = omega (arith, none (c .before .before .before))
+sweep-read-requires c κs = omega (arith, none (c .before .before .before .before .before .before .before .before .before .before .before .before))
 
 add-i : tie.Need-add-i Inv-loop μ-loop
 add-i c = omega arith
@@ -43,10 +50,11 @@ loop-less c = omega arith
 loop-again : tie.Need-loop-again Inv-loop μ-loop
 unfolding turns sweepTurn sweepRead tallied
 loop-again c =
-    let e = c .sweep-read .ensures in (
-      rw (add-one, e, c .before .gainrel .ensures, c .before .before .before .loop .inv .0),
+    let e = c .sweep-read .ensures in
+    let turn = c .before .before .before .before .before .before .before .before .before .before .before in (
+      rw (add-one, e, c .before .reading .ensures _ _ (turn .before .before .before .aspect-at .ensures .0) refl refl, turn .before .loop .inv .0),
       rw e (omega arith),
-      omega arith,
+      omega (arith, turn .loop-test .taken),
     )
 
 returns : tie.Need-returns Inv-loop μ-loop
@@ -61,9 +69,10 @@ sweep-spec =
     (tie.spec
     Inv-loop
     μ-loop
+    aspect-at-requires
     no-tally-requires
     loop-holds
-    gainrel-requires
+    reading-requires
     sweep-read-requires
     add-i
     loop-less
