@@ -120,8 +120,8 @@ uint64_t hf_gain(const uint32_t *antenna, size_t antenna_len, const float *table
 
 /* Writes the gains of azimuths 0 to 359 at a whole elevation 0 to 90 into row (HF_ROW floats), of an antenna record and its table. Of
  * what kind they are: all HF_SILENCE where the record's peak (hf_setup's out) is 0; else HF_FLOOR where the number is -30 and
- * HF_LEVEL where it is more. Returns kind 0 and the bits of front-to-back, or HF_REFUSED and the refusal (2, 3, 6, 7, 8, 10; 8 first
- * where antenna isn't HF_ANTENNA), with the row as it was. */
+ * HF_LEVEL where it is more. Returns kind 0 and the bits of front-to-back, the gain at 0 less the greatest at 90 to 270; or HF_REFUSED
+ * and the refusal (2, 3, 6, 7, 8, 10; 8 first where antenna isn't HF_ANTENNA), with the row as it was. */
 uint64_t hf_plate_row(const uint32_t *antenna, size_t antenna_len, const float *table, size_t table_len, float elevation, float giso,
                       float *row, size_t row_len);
 

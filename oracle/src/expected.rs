@@ -271,11 +271,19 @@ pub fn kept_gain(words: &[u32], table: &[f32], asked: [f32; 3]) -> Gain {
     try_kept_gain(words, table, asked).unwrap_or_else(Gain::Refused)
 }
 
+/// Card 6 of document 02, in place of document 01's entry at 180: "the greatest number from azimuth 90 to 270, both included", the one
+/// that none of them is above. Of +0 and -0 the first; no number of a row is -0. None where the numbers have no order.
+pub fn strongest_behind(numbers: &[f32; ROW]) -> Option<f32> {
+    let behind = &numbers[90..=270];
+    behind.iter().copied().find(|x| behind.iter().all(|y| y <= x))
+}
+
 /// The 360 numbers at one elevation and front-to-back.
 fn numbers(record: &CcirAntenna, elevation: f32, giso: f32) -> Result<([f32; ROW], f32), Refusal> {
     let numbers: [f32; ROW] = std::array::from_fn(|v| record.ccirgain(elevation, v as f32, giso));
-    let front_to_back = numbers[0] - numbers[180];
-    refuse_if(any_not_finite(&numbers) || !front_to_back.is_finite(), LEVEL)?;
+    refuse_if(any_not_finite(&numbers), LEVEL)?;
+    let front_to_back = numbers[0] - strongest_behind(&numbers).expect("finite numbers have a greatest");
+    refuse_if(!front_to_back.is_finite(), LEVEL)?;
     Ok((numbers, front_to_back))
 }
 

@@ -5,6 +5,11 @@ pub mod Mirror
 pub mod CrossedMirror
 mod CrossedTables
 mod NoNumber
+mod Strict
+pub mod Greatest
+pub mod FrontToBack
+pub mod Ties
+pub mod NoMinusZero
 pub mod RowGains
 mod Granted
 pub mod Outcomes

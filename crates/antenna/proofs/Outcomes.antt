@@ -76,3 +76,10 @@ accepted-row-finite a t u giso size {x} h =
     let s = passed (not (allFinite row && finite (frontToBack row))) _ _ m in
     let f = both (allFinite row) (finite (frontToBack row)) (not-false _ (s .0)) in
     (f .0, rw (same (s .1)) at (f .1))
+
+pub accepted-row-is : (a : Antenna) (t : List Float) (u giso : Float) (size : ℕ) {x : Float} → rowOf a t u giso size ≡ accepted x → x ≡ frontToBack (numbersOf a t u giso)
+unfolding rowOf measured
+accepted-row-is a t u giso size h =
+    let row = numbersOf a t u giso in
+    let m = passed (ltb 0 (askedRefusal (a .model) (length t) (rowAsked u giso size))) _ _ h .1 in
+    sym (same (passed (not (allFinite row && finite (frontToBack row))) _ _ m .1))

@@ -62,7 +62,7 @@ module _ (a : Antenna) (t : List Float) (u giso : Float) where
           space = refl;
         }
 
-    number-finite : (v : ℕ) → v < 360 → finite (at-azimuth v) ≡ true
+    pub number-finite : (v : ℕ) → v < 360 → finite (at-azimuth v) ≡ true
     unfolding numbersOf
     number-finite v i =
         let inside : v < length (numbersOf a t u giso) = rw (filled-length at-azimuth 360 360) i in

@@ -10,5 +10,6 @@ pub mod SetUp
 pub mod Asked
 pub mod Gain
 pub mod Row
+pub mod Greatest
 -- The code's steps, proved equal to those above: a reader of the promises may pass them by.
 pub mod Folded

@@ -1,13 +1,13 @@
--- Document 01, part 9: the plate row, with its refusals. Definitions only.
-use Prim.Native.Nat.{ℕ}
+-- Document 01, part 9: the plate row, with its refusals; front-to-back as document 02's card 6 has it. Definitions only.
+use Prim.Native.Nat.{ℕ, zero, suc, _+_, _-_}
 use mathlib.Core.Bool.{Bool, cond, not, _&&_}
 use mathlib.Core.List.{List}
-use lib.ListN.{length, getD}
+use lib.ListN.{length}
 use lib.Dec.{ltb, eqb}
-use lib.Ieee.{Float, nan, eq}
+use lib.Ieee.{Float, lt, eq}
 use lib.Ieee.Scale.{finite}
 use Rattle.floats.specs.Literals.{ninety}
-use Rattle.floats.specs.Ops.{_⊖_, count, +0}
+use Rattle.floats.specs.Ops.{_⊖_, count, +0, at}
 use Rattle.floats.specs.Ranges.{between, allFinite}
 use Rattle.floats.specs.Filled.{filledTo}
 use Rattle.model.specs.declared.record.Model.{Model}
@@ -32,9 +32,22 @@ rowTo m z6 t u giso n = filledTo (λ (v : ℕ). numberAt m z6 t u (count v) giso
 unfoldable pub numbersOf : Antenna → List Float → Float → Float → List Float
 numbersOf a t u giso = rowTo (a .model) (a .peak .z6) t u giso 360
 
--- the entry at 0 less the entry at 180
+-- of two numbers the larger; of two alike, as +0 and -0 are, the first
+unfoldable pub larger : Float → Float → Float
+larger x y = cond (lt x y) y x
+
+-- the greatest of the entry at `first` and the n entries after it
+unfoldable pub greatestOf : List Float → ℕ → ℕ → Float
+greatestOf row first zero = at row first
+greatestOf row first (suc n) = larger (greatestOf row first n) (at row (first + suc n))
+
+-- the greatest entry of azimuths `first` to `last`, both included
+abbrev pub greatest : List Float → ℕ → ℕ → Float
+greatest row first last = greatestOf row first (last - first)
+
+-- the entry at 0 less the greatest entry of azimuths 90 to 270, both included
 unfoldable pub frontToBack : List Float → Float
-frontToBack row = getD row 0 nan ⊖ getD row 180 nan
+frontToBack row = at row 0 ⊖ greatest row 90 270
 
 -- refused where a number or front-to-back isn't finite
 unfoldable pub measured : List Float → Outcome Float

@@ -1,6 +1,7 @@
 // The plate row: the numbers of `ccirgain` around one elevation, with front-to-back.
 use crate::asked::Asked;
 use crate::asked::refusal;
+use crate::behind::front_to_back;
 use crate::copy::lay_over;
 use crate::gain::decibels;
 use crate::record::Antenna;
@@ -22,9 +23,9 @@ ghost use Rattle.floats.specs.Filled.{filledTo};
 ghost use Rattle.model.specs.Counts.{countsOk};
 ghost use Rattle.model.specs.Table.{tableSize};
 ghost use Rattle.antenna.specs.Folded.{Mirrored};
-ghost use Rattle.antenna.specs.Row.{elevationOk, rowTo, frontToBack, rowAsked, rowOf, rowAnswer, rowAfter};
+ghost use Rattle.antenna.specs.Row.{elevationOk, rowTo, rowAsked, rowOf, rowAnswer, rowAfter};
 
-// The entry at azimuth 0 less that at 180, or the number of a refusal.
+// The entry at azimuth 0 less the greatest of those at 90 to 270, or the number of a refusal.
 pub enum PlateRow {
     FrontToBack(f32),
     Refused(u8),
@@ -102,12 +103,6 @@ fn numbers(m: Model, z6: f32, table: &[f32], u: f32, giso: f32) -> [f32; 360]
         return folded(half, west);
     }
     filled(m, z6, table, u, giso, 360)
-}
-
-fn front_to_back(row: [f32; 360]) -> f32
-    ensures { λ r. ⌜ r ≡ frontToBack row ⌝ }
-{
-    row[0] - row[180]
 }
 
 // The row at elevation u, written into the lent floats once all its numbers exist.

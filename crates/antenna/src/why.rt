@@ -11,7 +11,6 @@ use numeric::float::is_finite;
 use numeric::float::to_usize;
 use slots::Why;
 ghost use mathlib.Core.Path.{_≡_};
-ghost use Prim.Native.Nat.{_<_, _≤_};
 ghost use Rattle.slots.specs.Told.{lowest};
 ghost use Rattle.antenna.specs.Why.{mhzSlot, elementsSlot, dipolesSlot, slewSlot, elevationSlot, azimuthSlot, elementsOk, countBroken, aimBroken, broken, breaks, whyOf};
 

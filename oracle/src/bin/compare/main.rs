@@ -6,6 +6,8 @@
 mod antenna_edges;
 #[cfg(source)]
 mod antennas;
+#[cfg(source)]
+mod behind;
 mod board;
 mod books;
 mod calendar;
@@ -58,6 +60,8 @@ const CALLS: &[Call] = &[
     ("gains", 100_000, gains::compare),
     #[cfg(source)]
     ("readings", 20_000, readings::compare),
+    #[cfg(source)]
+    ("behind", 1, behind::compare),
     #[cfg(source)]
     ("setup", 10_000, antennas::set_ups),
     #[cfg(source)]
