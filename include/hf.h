@@ -75,7 +75,7 @@ enum hf_size {
   HF_TIME = 4,            /* words: year, month, day, minute of the day */
   HF_LEVELS_STATE = 66,   /* words: a ring of 64 levels, how many it holds, the next place */
   HF_LEVELS_SHOWN = 3,    /* words: how many, the greatest, the least */
-  HF_BOARD = 5777         /* words: how many are on, sixteen places of an id and a row */
+  HF_BOARD = 6497         /* words: how many are on, sixteen places of an id and a row, what the board shows */
 };
 
 /* The seasons of frequency sheets. */
@@ -193,9 +193,9 @@ uint32_t hf_levels_record(uint32_t *state, size_t state_len, float level, uint32
 uint32_t hf_levels(const uint32_t *state, size_t state_len, uint32_t *out, size_t out_len);
 
 /* The exercise board: which of at most sixteen stations on the air is the strongest at each of 360 azimuths. A board is HF_BOARD
- * words that the caller keeps: how many are on, then sixteen places of 361 words, an id and the bits of its row, the first to join
- * first; a free place is all 0. The calls on it return 8 where board isn't HF_BOARD words or they are words that no run of
- * hf_board_empty, hf_board_join and hf_board_leave leaves. */
+ * words that the caller keeps: how many are on; sixteen places of 361 words, an id and the bits of its row, the first to join first,
+ * a free place all 0; then what the board shows, the bits of 360 numbers and after them the 360 ids. The calls on it return 8 where
+ * board isn't HF_BOARD words or they are words that no run of hf_board_empty, hf_board_join and hf_board_leave leaves. */
 
 /* Nobody is on. Returns 0, or 8 where board isn't HF_BOARD words; any words will do. */
 uint32_t hf_board_empty(uint32_t *board, size_t board_len);

@@ -1,7 +1,10 @@
 //! Document 02's card 10, the exercise board, from its words: a list of those on the air, and the board worked out afresh from it.
-//! In words it is how many are on, then sixteen places of an id and 360 numbers' bits, the first to join first, the rest 0.
+//! In words it is how many are on, then sixteen places of an id and 360 numbers' bits, the first to join first, the rest 0; after
+//! these the bits of the 360 numbers shown, and the 360 ids that have them.
 
-pub const WORDS: usize = 5777;
+/// The words of those on.
+pub const AIR: usize = 5777;
+pub const WORDS: usize = AIR + 2 * AZIMUTHS;
 pub const AZIMUTHS: usize = 360;
 pub const PLACES: usize = 16;
 
@@ -58,14 +61,18 @@ impl Air {
     /// The greatest number at an azimuth and the lowest id that has it; -30 and 0 with nobody on.
     pub fn shown(&self, azimuth: usize) -> (f32, u32) {
         let number = |station: &Station| station.row[azimuth];
-        let greatest = self.0.iter().filter(|s| self.0.iter().all(|t| number(t) <= number(s)));
-        greatest.min_by_key(|s| s.id).map_or((-30.0, 0), |s| (number(s), s.id))
+        let greatest = self.0.iter().map(number).fold(f32::NEG_INFINITY, f32::max);
+        let shown = self.0.iter().filter(|s| number(s) == greatest).min_by_key(|s| s.id);
+        shown.map_or((-30.0, 0), |s| (number(s), s.id))
     }
 
     pub fn words(&self) -> Vec<u32> {
         let places = self.0.iter().flat_map(|s| std::iter::once(s.id).chain(s.row.iter().map(|x| x.to_bits())));
         let mut words: Vec<u32> = std::iter::once(self.count() as u32).chain(places).collect();
-        words.resize(WORDS, 0);
+        words.resize(AIR, 0);
+        let shown: Vec<(f32, u32)> = (0..AZIMUTHS).map(|v| self.shown(v)).collect();
+        words.extend(shown.iter().map(|(number, _)| number.to_bits()));
+        words.extend(shown.iter().map(|(_, id)| id));
         words
     }
 
@@ -73,7 +80,7 @@ impl Air {
     pub fn from_words(words: &[u32]) -> Option<Air> {
         let count = *words.first()? as usize;
         let mut air = Air::default();
-        for place in words[1..].chunks_exact(1 + AZIMUTHS).take(count) {
+        for place in words.get(1..AIR)?.chunks_exact(1 + AZIMUTHS).take(count) {
             let row: Vec<f32> = place[1..].iter().map(|bits| f32::from_bits(*bits)).collect();
             air.join(place[0], &row).ok()?;
         }

@@ -354,7 +354,7 @@ fn board(random: &mut Random, k: u64) -> Vec<Value> {
         rows.extend(row);
     }
     let (words, numbers, ids) = match k % 20 {
-        17 => (random.pick(&[0, 5776, 5778]), 360, 360),
+        17 => (random.pick(&[0, board::WORDS - 1, board::WORDS + 1]), 360, 360),
         18 => (board::WORDS, random.pick(&[0, 359, 361]), 360),
         19 => (board::WORDS, 360, random.pick(&[0, 359, 361])),
         _ => (board::WORDS, 360, 360),

@@ -6,12 +6,13 @@ mod Boards
 mod Changes
 mod Each
 mod Good
+mod Keeping
 mod Moves
 mod Order
+mod Parts
 mod Present
 mod Ranks
 mod Reading
-mod Shown
 mod Slots
 mod Tests
 mod Writing

@@ -14,12 +14,12 @@ use Rattle.words.specs.Laid.{laid}
 use Rattle.words.proofs.Laid.{take-laid, laid-length}
 use Rattle.board.specs.Stations.{Station}
 use Rattle.board.specs.Runs.{on, without}
-use Rattle.board.specs.Words.{boardSize, placeOf, placesOf, wordsOf, stationsOk}
+use Rattle.board.specs.Words.{airSize, placeOf, placesOf, airOf, stationsOk}
 use Rattle.board.specs.Steps.{slotOf}
 use Rattle.board.proofs.Tests.{neither}
 use Rattle.board.proofs.Each.{Each, none, more}
 use Rattle.board.proofs.Good.{own}
-use Rattle.board.proofs.Boards.{Row, Kept, place-length, places-length, words-size}
+use Rattle.board.proofs.Boards.{Row, OnAir, place-length, places-length, air-size}
 
 drop-zeros : (m n : ℕ) → drop m (replicate {A = ℕ} n 0) ≡ replicate (n - m) 0
 drop-zeros zero n = rw (sub-zero n)
@@ -29,8 +29,8 @@ drop-zeros (suc m) (suc n) = drop-zeros m n ∙ ap (λ (k : ℕ). replicate k 0)
 -- ---- one more
 
 pub joined : {ss : List Station} (s : Station) → Each Row ss → length ss < 16 → length (s .row) ≡ 360
-    → set (laid (wordsOf ss) (1 + 361 * length ss) (placeOf s)) 0 (length ss + 1) ≡ wordsOf (s ∷ ss)
-unfolding laid wordsOf placesOf
+    → set (laid (airOf ss) (1 + 361 * length ss) (placeOf s)) 0 (length ss + 1) ≡ airOf (s ∷ ss)
+unfolding laid airOf placesOf
 joined {ss} s rows few whole =
     let n = length ss in
     let zeros = replicate {A = ℕ} (361 * (16 - n)) 0 in
@@ -108,7 +108,7 @@ unfolding laid
 laid-end l k s e = rw (drop-of-length-le l {i = k + length s} (omega arith), append-nil)
 
 -- the words after a place move up over it, and the last m are cleared
-closed : (words : List ℕ) (at m : ℕ) → length words ≡ boardSize → at + 361 ≤ length words → m ≡ 361
+closed : (words : List ℕ) (at m : ℕ) → length words ≡ airSize → at + 361 ≤ length words → m ≡ 361
     → laid (laid words at (drop (at + 361) words)) 5416 (replicate m 0) ≡ cut words at ++ replicate m 0
 closed words at m size h e =
     let moved = drop (at + 361) words in
@@ -117,10 +117,10 @@ closed words at m size h e =
     laid-end (laid words at moved) 5416 (replicate m 0) (omega (arith, laid-length words at moved room, length-replicate {A = ℕ} m 0))
     ∙ ap (λ (r : List ℕ). r ++ replicate m 0) (take-laid words at moved 5416 (omega (arith, n)) (omega arith))
 
-pub left : (id m : ℕ) {ss : List Station} → Kept ss → on id ss ≡ true → m ≡ 361
+pub left : (id m : ℕ) {ss : List Station} → OnAir ss → on id ss ≡ true → m ≡ 361
     → let at = 1 + 361 * slotOf id ss in
-    set (laid (laid (wordsOf ss) at (drop (at + 361) (wordsOf ss))) 5416 (replicate m 0)) 0 (length ss - 1) ≡ wordsOf (without id ss)
-unfolding wordsOf
+    set (laid (laid (airOf ss) at (drop (at + 361) (airOf ss))) 5416 (replicate m 0)) 0 (length ss - 1) ≡ airOf (without id ss)
+unfolding airOf
 left id m {ss} k h e =
     let n = length ss in
     let slot = slotOf id ss in
@@ -128,14 +128,14 @@ left id m {ss} k h e =
     let zeros = replicate {A = ℕ} (361 * (16 - n)) 0 in
     let p = parted id (k .rows) (k .ok) h in
     let at : 1 + 361 * slot ≡ suc (361 * slot) = omega arith in
-    let size = words-size (k .rows) (k .few) in
+    let size = air-size (k .rows) (k .few) in
     let front : suc (361 * slot) + 361 ≤ length (n ∷ placesOf ss) = omega (arith, places-length (k .rows), p .inside) in
     let one : n - 1 ≡ length rest = omega (arith, p .fewer) in
     let more-zeros : 361 * (16 - n) + m ≡ 361 * (16 - length rest) = omega (arith, p .fewer, k .few) in
-    let whole = closed (wordsOf ss) (1 + 361 * slot) m size (omega (arith, size, p .inside, k .few)) e in
+    let whole = closed (airOf ss) (1 + 361 * slot) m size (omega (arith, size, p .inside, k .few)) e in
     ap (λ (l : List ℕ). set l 0 (n - 1))
     (whole
-    ∙ ap (λ (j : ℕ). cut (wordsOf ss) j ++ replicate m 0) at
+    ∙ ap (λ (j : ℕ). cut (airOf ss) j ++ replicate m 0) at
     ∙ ap (λ (l : List ℕ). l ++ replicate m 0) (cut-append (n ∷ placesOf ss) zeros (suc (361 * slot)) front ∙ ap (λ (l : List ℕ). l ++ zeros) (cut-cons n (placesOf ss) (361 * slot) ∙ ap (λ (l : List ℕ). n ∷ l) (p .places)))
     ∙ append-assoc (n ∷ placesOf rest) zeros (replicate m 0)
     ∙ ap (λ (l : List ℕ). n ∷ placesOf rest ++ l) (replicate-append-replicate (361 * (16 - n)) m 0))

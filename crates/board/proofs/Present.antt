@@ -17,7 +17,7 @@ use Rattle.board.proofs.Each.{Each, none, more}
 use Rattle.board.proofs.Ranks.{Fit}
 use Rattle.board.proofs.Good.{Own, own, id-low}
 use Rattle.board.proofs.Answers.{MayJoin, may-join}
-use Rattle.board.proofs.Boards.{Row, Kept}
+use Rattle.board.proofs.Boards.{Row, OnAir}
 
 -- ---- one more
 
@@ -25,7 +25,7 @@ stations-ok : (s : Station) (ss : List Station) → stationsOk ss ≡ true → O
 unfolding stationsOk stationOk
 stations-ok s ss ok o = rw (ok, o .id, o .new, o .numbers)
 
-one-more : (id : ℕ) (row : List Float) {ss : List Station} → F32s row → Kept ss → MayJoin true ss id row → Kept (station id row ∷ ss)
+pub one-more : (id : ℕ) (row : List Float) {ss : List Station} → F32s row → OnAir ss → MayJoin true ss id row → OnAir (station id row ∷ ss)
 one-more id row {ss} held k m = record {
   rows = more (record { whole = m .whole; held = held }) (k .rows);
   few = m .room;
@@ -35,12 +35,12 @@ one-more id row {ss} held k m = record {
 -- ---- one fewer
 
 module _ (id : ℕ) where
-  rows-without : {ss : List Station} → Each Row ss → Each Row (without id ss)
+  pub each-without : {P : Station → Type 0} {ss : List Station} → Each P ss → Each P (without id ss)
   unfolding without
-  rows-without none = none
-  rows-without (more {s} {ss} r rs) = go (eqb (s .id) id) (rows-without rs)
+  each-without none = none
+  each-without {P} (more {s} {ss} r rs) = go (eqb (s .id) id) (each-without rs)
     where
-      go : (t : Bool) → Each Row (without id ss) → Each Row (cond t (without id ss) (s ∷ without id ss))
+      go : (t : Bool) → Each P (without id ss) → Each P (cond t (without id ss) (s ∷ without id ss))
       go true below = below
       go false below = more r below
 
@@ -62,7 +62,7 @@ module _ (id : ℕ) where
       go true e below = below
       go false e below = rw (e, below)
 
-  ok-without : (ss : List Station) → stationsOk ss ≡ true → stationsOk (without id ss) ≡ true
+  pub ok-without : (ss : List Station) → stationsOk ss ≡ true → stationsOk (without id ss) ≡ true
   unfolding without
   ok-without [] h = h
   ok-without (s ∷ ss) h = let o = own s ss h in go (eqb (s .id) id) (o .1) (ok-without ss (o .0))
@@ -71,28 +71,28 @@ module _ (id : ℕ) where
       go true o below = below
       go false o below = stations-ok s (without id ss) below (record { id = o .id; new = off-without (s .id) ss (o .new); numbers = o .numbers })
 
-  one-fewer : {ss : List Station} → Kept ss → Kept (without id ss)
-  one-fewer {ss} k = record { rows = rows-without (k .rows); few = omega (arith, fewer-without ss, k .few); ok = ok-without ss (k .ok) }
+  pub one-fewer : {ss : List Station} → OnAir ss → OnAir (without id ss)
+  one-fewer {ss} k = record { rows = each-without (k .rows); few = omega (arith, fewer-without ss, k .few); ok = ok-without ss (k .ok) }
 
 -- ---- a call
 
-pub kept-after : {ss : List Station} (c : Call) → Made c → Kept ss → Kept (after ss c)
+pub on-air-after : {ss : List Station} (c : Call) → Made c → OnAir ss → OnAir (after ss c)
 unfolding after accepted refusalOf
-kept-after {ss} c m k = go (ltb 0 (refusalOf ss c)) refl
+on-air-after {ss} c m k = go (ltb 0 (refusalOf ss c)) refl
   where
-    taken : (d : Call) → Made d → refusalOf ss d ≡ 0 → Kept (accepted ss d)
+    taken : (d : Call) → Made d → refusalOf ss d ≡ 0 → OnAir (accepted ss d)
     taken (join id row) held e = one-more id row held k (may-join true ss id row e)
     taken (leave id) held e = one-fewer id k
 
-    go : (t : Bool) → ltb 0 (refusalOf ss c) ≡ t → Kept (cond t ss (accepted ss c))
+    go : (t : Bool) → ltb 0 (refusalOf ss c) ≡ t → OnAir (cond t ss (accepted ss c))
     go true e = k
     go false e = let none-over = ltb-false 0 (refusalOf ss c) e in taken c m (omega arith)
 
 -- ---- their ranks count
 
-pub each-kept : (v : ℕ) → v < 360 → {ss : List Station} → Each Row ss → stationsOk ss ≡ true → Each (Fit v) ss
-each-kept v h none ok = none
-each-kept v h (more {s} {ss} r rs) ok =
+pub each-fit : (v : ℕ) → v < 360 → {ss : List Station} → Each Row ss → stationsOk ss ≡ true → Each (Fit v) ss
+each-fit v h none ok = none
+each-fit v h (more {s} {ss} r rs) ok =
     let o = own s ss ok in
     let ended = subst T (sym (finite-at (s .row) v (o .1 .numbers) (omega (arith, r .whole)))) tt in
-    more (record { number = record { held = r .held v; ended = ended }; low = id-low (s .id) (o .1 .id) }) (each-kept v h rs (o .0))
+    more (record { number = record { held = r .held v; ended = ended }; low = id-low (s .id) (o .1 .id) }) (each-fit v h rs (o .0))

@@ -7,15 +7,14 @@ use Prim.Native.Nat.{ℕ, _+_, _-_, _*_, _≤_}
 use native.Mathlib.Nat.{le-refl, le-trans, le-of-lt}
 use native.Mathlib.Omega.{arith}
 use lib.Dec.{ltb, eqb}
-use borrow.Author.Tests.{ltb-true, ltb-false, lt-ltb, le-ltb, eqb-true, eq-eqb}
+use borrow.Author.Tests.{ltb-true, ltb-false, lt-ltb, le-ltb, eqb-true, eq-eqb, ne-eqb}
 use Rattle.floats.proofs.Tests.{both}
-use Rattle.board.specs.Stations.{Station, numberAt, outdoes, outdone, firstOf, shown, Strongest}
-use Rattle.board.specs.Runs.{on}
+use Rattle.board.specs.Stations.{Station, numberAt, nobody, outdoes, outdone, firstOf, shown, Strongest}
+use Rattle.board.specs.Runs.{on, isId}
 use Rattle.board.specs.Words.{stationsOk}
-use Rattle.board.specs.Steps.{leader}
 use Rattle.board.proofs.Tests.{same-test, neither}
 use Rattle.board.proofs.Each.{Each, none, more, each-at}
-use Rattle.board.proofs.Good.{own}
+use Rattle.board.proofs.Good.{own, id-some}
 use Rattle.board.proofs.Order.{F32, key, lt-key}
 
 -- ---- ranks
@@ -53,6 +52,11 @@ outdoes-rank v t s ft fs =
     rw (e .0, e .1) (by-rank (key (numberAt v s)) (key (numberAt v t)) (s .id) (t .id) (fs .low) (ft .low))
 
 -- ---- the leader
+
+-- who leads at azimuth v, where first leads to begin with and each that outdoes the leader takes its place
+leader : ℕ → Station → List Station → Station
+leader v first [] = first
+leader v first (s ∷ ss) = cond (outdoes v s (leader v first ss)) s (leader v first ss)
 
 -- none of them has a rank above r
 abbrev Within : ℕ → ℕ → List Station → Type 0
@@ -143,29 +147,74 @@ found v l all fit ok m most (x ∷ xs) sub n =
         let down = each-at most mine in
         same-station all ok mine m (omega (arith, each-at fit mine .low, each-at fit m .low))
 
-pub leader-shown : (v : ℕ) (first : Station) (ss : List Station) → Each (Fit v) ss → stationsOk ss ≡ true → List·Memᴰ first ss → leader v first ss ≡ shown v ss
+-- one of them, and none has a rank above its own
+pub record Best (v : ℕ) (ss : List Station) (l : Station) : Type 0 where
+  pub mine : List·Memᴰ l ss
+  pub most : Within v (rank v l) ss
+
+pub best-shown : (v : ℕ) {l : Station} (ss : List Station) → Each (Fit v) ss → stationsOk ss ≡ true → Best v ss l → shown v ss ≡ l
 unfolding shown
-leader-shown v first ss fit ok m =
+best-shown v {l} ss fit ok b = found v l ss fit ok (b .mine) (b .most) ss (λ x k. k) (b .mine)
+
+leader-best : (v : ℕ) (first : Station) (ss : List Station) → Each (Fit v) ss → List·Memᴰ first ss → Best v ss (leader v first ss)
+leader-best v first ss fit m =
     let l = leader v first ss in
     let r = leads v first ss (each-at fit m) fit in
-    let mine = ⊎-elim (λ (e : l ≡ first). Memᴰ·cast e m) (λ (k : List·Memᴰ l ss). k) (r .mine) in
-    sym (found v l ss fit ok mine (r .most) ss (λ x k. k) mine)
+    record { mine = ⊎-elim (λ (e : l ≡ first). Memᴰ·cast e m) (λ (k : List·Memᴰ l ss). k) (r .mine); most = r .most }
+
+leader-shown : (v : ℕ) (first : Station) (ss : List Station) → Each (Fit v) ss → stationsOk ss ≡ true → List·Memᴰ first ss → shown v ss ≡ leader v first ss
+leader-shown v first ss fit ok m = best-shown v ss fit ok (leader-best v first ss fit m)
+
+pub shown-best : (v : ℕ) (t : Station) (ss : List Station) → Each (Fit v) ss → stationsOk ss ≡ true → List·Memᴰ t ss → Best v ss (shown v ss)
+shown-best v t ss fit ok m = subst (Best v ss) (sym (leader-shown v t ss fit ok m)) (leader-best v t ss fit m)
 
 -- the one shown is the strongest
 pub shown-strongest : (v : ℕ) (t : Station) (ss : List Station) → Each (Fit v) ss → stationsOk ss ≡ true → List·Memᴰ t ss → Strongest v ss (shown v ss)
-shown-strongest v t ss fit ok m = subst (Strongest v ss) (leader-shown v t ss fit ok m) (strongest (leads v t ss (each-at fit m) fit))
+shown-strongest v t ss fit ok m = strongest (shown-best v t ss fit ok m)
   where
     l : Station
-    l = leader v t ss
+    l = shown v ss
 
-    strongest : Leads v t ss l → Strongest v ss l
-    strongest r = record {
-      on = ⊎-elim (λ (e : l ≡ t). Memᴰ·cast e m) (λ (k : List·Memᴰ l ss). k) (r .mine);
+    strongest : Best v ss l → Strongest v ss l
+    strongest b = record {
+      on = b .mine;
       greatest = λ u k.
-          let e = lt-key (numberAt v l) (numberAt v u) (r .fit .number) (each-at fit k .number) in
-          e .0 ∙ le-ltb (key (numberAt v l)) (key (numberAt v u)) (omega (arith, each-at (r .most) k, each-at fit k .low, r .fit .low));
+          let e = lt-key (numberAt v l) (numberAt v u) (each-at fit (b .mine) .number) (each-at fit k .number) in
+          e .0 ∙ le-ltb (key (numberAt v l)) (key (numberAt v u)) (omega (arith, each-at (b .most) k, each-at fit k .low, each-at fit (b .mine) .low));
       lowest = λ u k h.
-          let e = lt-key (numberAt v l) (numberAt v u) (r .fit .number) (each-at fit k .number) in
+          let e = lt-key (numberAt v l) (numberAt v u) (each-at fit (b .mine) .number) (each-at fit k .number) in
           let same = eqb-true (key (numberAt v l)) (key (numberAt v u)) (sym (e .1) ∙ h) in
-          omega (arith, each-at (r .most) k, each-at fit k .low, r .fit .low);
+          omega (arith, each-at (b .most) k, each-at fit k .low, each-at fit (b .mine) .low);
     }
+
+-- ---- one more
+
+pub shown-none : (v : ℕ) → shown v [] ≡ nobody
+unfolding shown firstOf
+shown-none v = refl
+
+nobody-id : nobody .id ≡ 0
+unfolding nobody
+nobody-id = refl
+
+each-id : (ss : List Station) → stationsOk ss ≡ true → Each (λ (s : Station). isId (s .id) ≡ true) ss
+each-id [] ok = none
+each-id (s ∷ ss) ok = let o = own s ss ok in more (o .1 .id) (each-id ss (o .0))
+
+cond-same : {A : Type 0} (t : Bool) (x : A) → cond t x x ≡ x
+cond-same true x = refl
+cond-same false x = refl
+
+-- a newcomer is shown where nobody was, or where it outdoes the one shown
+pub shown-more : (v : ℕ) (s : Station) (ss : List Station) → Each (Fit v) (s ∷ ss) → stationsOk (s ∷ ss) ≡ true
+    → shown v (s ∷ ss) ≡ cond (eqb (shown v ss .id) 0 || outdoes v s (shown v ss)) s (shown v ss)
+unfolding leader
+shown-more v s [] fit ok =
+    leader-shown v s (s ∷ []) fit ok (List·Memᴰ·head refl) ∙ cond-same (outdoes v s s) s ∙ rw (shown-none v, nobody-id)
+shown-more v s (t ∷ ts) (more p fit) ok =
+    let ss = t ∷ ts in
+    let ok-others = own s ss ok .0 in
+    let before = leader-shown v t ss fit ok-others (List·Memᴰ·head refl) in
+    let someone = id-some (shown v ss .id) (each-at (each-id ss ok-others) (shown-best v t ss fit ok-others (List·Memᴰ·head refl) .mine)) in
+    leader-shown v t (s ∷ ss) (more p fit) ok (List·Memᴰ·tail (List·Memᴰ·head refl))
+    ∙ rw (← before, ne-eqb (shown v ss .id) 0 (λ e. omega arith))

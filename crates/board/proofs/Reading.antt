@@ -1,13 +1,15 @@
 -- What is read in a board's words. Assumes nothing.
-use mathlib.Core.Path.{_≡_, refl, ap, _∙_}
+use mathlib.Core.Path.{_≡_, refl, sym, ap, _∙_}
 use mathlib.Core.List.{List, [], _∷_}
 use Prim.Native.Nat.{ℕ, zero, suc, _+_, _≤_, _<_}
 use native.Mathlib.Nat.{le-of-suc-le-suc}
 use native.Mathlib.Omega.{arith}
 use lib.ListN.{length, getD, take, drop, length-map, length-take, length-drop, List·getD-map}
 use lib.Seq.{getD-take, getD-drop}
+use lib.Dec.{lit<}
 use lib.Ieee.{nan, binary32, ofBits}
-use Rattle.board.specs.Words.{rowIn, stationsTo}
+use Rattle.board.specs.Runs.{on}
+use Rattle.board.specs.Words.{airSize, airIn, countIn, rowIn, stationsTo, stationsOn, stationsIn}
 
 -- within a list no default is read
 pub in-list : {A : Type 0} (l : List A) (i : ℕ) (d e : A) → i < length l → getD l i d ≡ getD l i e
@@ -29,3 +31,15 @@ pub stations-length : (words : List ℕ) (n : ℕ) → length (stationsTo words 
 unfolding stationsTo
 stations-length words zero = refl
 stations-length words (suc n) = ap suc (stations-length words n)
+
+-- how many are on, read in the board or in its air
+pub count-in : (words : List ℕ) → countIn (airIn words) ≡ countIn words
+count-in words = getD-take airSize words 0 0 (lit< tt)
+
+pub on-read : (words : List ℕ) (id : ℕ) → on id (stationsTo (airIn words) (countIn words)) ≡ on id (stationsIn words)
+unfolding stationsOn
+on-read words id = ap (λ (n : ℕ). on id (stationsTo (airIn words) n)) (sym (count-in words))
+
+pub length-read : (words : List ℕ) → length (stationsIn words) ≡ countIn words
+unfolding stationsOn
+length-read words = stations-length (airIn words) (countIn (airIn words)) ∙ count-in words

@@ -9,17 +9,18 @@ use lib.Dec.{ltb, eqb}
 use lib.Ieee.{Float}
 use borrow.Author.Tests.{eq-eqb, eqb-true}
 use Rattle.answers.specs.Refusals.{FULL}
-use Rattle.board.specs.Stations.{Station, station, numbersShown, idsShown, shown, Strongest}
-use Rattle.board.specs.Runs.{Call, join, leave, Run, start, next, on, isId, joinRefusal, leaveRefusal, refusalOf, New, without, accepted, after, afterAll, present}
+use Rattle.board.specs.Stations.{Station, station, numbersShown, idsShown, outdoes, shown, Strongest}
+use Rattle.board.specs.Runs.{Call, join, leave, F32s, Run, start, next, on, isId, joinRefusal, leaveRefusal, refusalOf, New, without, accepted, after, afterAll, present}
 use Rattle.board.specs.Words.{U32s, wordsOf, stationsIn, boardOk, stationsOk}
 use Rattle.board.specs.Calls.{joinAnswer, joinLeaves, leaveAnswer, leaveLeaves, showAnswer, showNumbers, showIds, answer, leaves, leavesAll, wordsAfter}
 use Rattle.board.proofs.Each.{Each, none, more}
-use Rattle.board.proofs.Ranks.{shown-strongest}
-use Rattle.board.proofs.Good.{own, good}
-use Rattle.board.proofs.Answers.{MayJoin, joins}
-use Rattle.board.proofs.Boards.{Row, Kept, words-of, words-back, kept}
+use Rattle.board.proofs.Ranks.{shown-strongest, shown-more}
+use Rattle.board.proofs.Good.{own}
+use Rattle.board.proofs.Keeping.{shown-stays}
+use Rattle.board.proofs.Answers.{MayJoin, may-join, joins}
+use Rattle.board.proofs.Boards.{Row, OnAir, whole, stations-on-air, words-of, words-back}
 use Rattle.board.proofs.Moves.{one-gone}
-use Rattle.board.proofs.Present.{kept-after, each-kept}
+use Rattle.board.proofs.Present.{one-more, on-air-after, each-fit}
 
 -- ---- the words after a run are those of the stations present
 
@@ -28,30 +29,30 @@ unless-same f true x y = refl
 unless-same f false x y = refl
 
 -- a call on the words answers, and does, what it does on the stations
-one-answer : {ss : List Station} → Kept ss → (c : Call) → answer (wordsOf ss) c ≡ refusalOf ss c
+one-answer : {ss : List Station} → OnAir ss → (c : Call) → answer (wordsOf ss) c ≡ refusalOf ss c
 unfolding answer joinAnswer leaveAnswer refusalOf
 one-answer k (join id row) = rw (words-of k .0, words-of k .1)
 one-answer k (leave id) = rw (words-of k .0, words-of k .1)
 
-one-call : {ss : List Station} → Kept ss → (c : Call) → leaves (wordsOf ss) c ≡ wordsOf (after ss c)
+one-call : {ss : List Station} → OnAir ss → (c : Call) → leaves (wordsOf ss) c ≡ wordsOf (after ss c)
 unfolding leaves joinLeaves leaveLeaves answer after accepted
 one-call {ss} k (join id row) = rw (one-answer k (join id row), words-of k .1) (unless-same wordsOf (ltb 0 (refusalOf ss (join id row))) ss (station id row ∷ ss))
 one-call {ss} k (leave id) = rw (one-answer k (leave id), words-of k .1) (unless-same wordsOf (ltb 0 (refusalOf ss (leave id))) ss (without id ss))
 
-run-words : {ss : List Station} {cs : List Call} → Kept ss → Run cs → (leavesAll (wordsOf ss) cs ≡ wordsOf (afterAll ss cs)) × Kept (afterAll ss cs)
+run-words : {ss : List Station} {cs : List Call} → OnAir ss → Run cs → (leavesAll (wordsOf ss) cs ≡ wordsOf (afterAll ss cs)) × OnAir (afterAll ss cs)
 unfolding leavesAll afterAll
 run-words k start = (refl, k)
-run-words {ss} k (next {c} {cs} m r) = rw (one-call k c) (run-words (kept-after c m k) r)
+run-words {ss} k (next {c} {cs} m r) = rw (one-call k c) (run-words (on-air-after c m k) r)
 
-empty-kept : Kept []
+empty-air : OnAir []
 unfolding stationsOk
-empty-kept = record { rows = none; few = omega arith; ok = refl }
+empty-air = record { rows = none; few = omega arith; ok = refl }
 
-after-run : {cs : List Call} → Run cs → (wordsAfter cs ≡ wordsOf (present cs)) × Kept (present cs)
+after-run : {cs : List Call} → Run cs → (wordsAfter cs ≡ wordsOf (present cs)) × OnAir (present cs)
 unfolding wordsAfter present
-after-run r = run-words empty-kept r
+after-run r = run-words empty-air r
 
-one-show : {ss : List Station} → Kept ss → (numbers ids : ℕ) → numbers ≡ 360 → ids ≡ 360 → showAnswer (wordsOf ss) numbers ids ≡ 0
+one-show : {ss : List Station} → OnAir ss → (numbers ids : ℕ) → numbers ≡ 360 → ids ≡ 360 → showAnswer (wordsOf ss) numbers ids ≡ 0
 unfolding showAnswer
 one-show k numbers ids n m = rw (words-of k .0, eq-eqb numbers 360 n, eq-eqb ids 360 m)
 
@@ -71,7 +72,7 @@ board-law r numbers ids n m =
 pub strongest-law : {cs : List Call} → Run cs → (v : ℕ) → v < 360 → {t : Station} → List·Memᴰ t (present cs) → Strongest v (present cs) (shown v (present cs))
 strongest-law {cs} r v h {t} m =
     let k = after-run r .1 in
-    shown-strongest v t (present cs) (each-kept v h (k .rows) (k .ok)) (k .ok) m
+    shown-strongest v t (present cs) (each-fit v h (k .rows) (k .ok)) (k .ok) m
 
 -- each call is answered by who is present
 pub answers-law : {cs : List Call} → Run cs → (c : Call) → answer (wordsAfter cs) c ≡ refusalOf (present cs) c
@@ -92,6 +93,26 @@ present-more cs c h = afterAll-append [] cs (c ∷ []) ∙ rw h
 run-append : {cs ds : List Call} → Run cs → Run ds → Run (cs ++ ds)
 run-append start r = r
 run-append (next m q) r = next m (run-append q r)
+
+-- with one more the newcomer is shown where nobody was, or where it outdoes the one shown: one comparison an azimuth
+pub join-law : {cs : List Call} → Run cs → (id : ℕ) (row : List Float) → F32s row → answer (wordsAfter cs) (join id row) ≡ 0 → (v : ℕ) → v < 360
+    → let was = shown v (present cs) in
+    shown v (present (cs ++ (join id row ∷ []))) ≡ cond (eqb (was .id) 0 || outdoes v (station id row) was) (station id row) was
+unfolding refusalOf accepted
+join-law {cs} r id row held h v low =
+    let ss = present cs in
+    let may = sym (answers-law r (join id row)) ∙ h in
+    let k = one-more id row held (after-run r .1) (may-join true ss id row may) in
+    ap (shown v) (present-more cs (join id row) may) ∙ shown-more v (station id row) ss (each-fit v low (k .rows) (k .ok)) (k .ok)
+
+-- with one gone the same is shown at each azimuth where the one gone wasn't
+pub leave-law : {cs : List Call} → Run cs → (id : ℕ) → answer (wordsAfter cs) (leave id) ≡ 0 → (v : ℕ) → v < 360 → eqb (shown v (present cs) .id) id ≡ false
+    → shown v (present (cs ++ (leave id ∷ []))) ≡ shown v (present cs)
+unfolding accepted
+leave-law {cs} r id h v low other =
+    let k = after-run r .1 in
+    ap (shown v) (present-more cs (leave id) (sym (answers-law r (leave id)) ∙ h))
+    ∙ shown-stays v id (present cs) (each-fit v low (k .rows) (k .ok)) (k .ok) other
 
 on-id : (id : ℕ) (ss : List Station) → stationsOk ss ≡ true → on id ss ≡ true → isId id ≡ true
 unfolding on
@@ -155,7 +176,7 @@ present-joining (more {s} {ss} r rs) ok few =
 
 pub accepted-runs : (words : List ℕ) → U32s words → boardOk words ≡ true → (cs : List Call) × Run cs × (wordsAfter cs ≡ words)
 accepted-runs words u ok =
-    let g = good words ok in
-    let k = kept words u g in
+    let w = whole words ok in
+    let k = stations-on-air words u w in
     let r = run-joining (k .rows) in
-    (joiningAll (stationsIn words), r, after-run r .0 ∙ ap wordsOf (present-joining (k .rows) (k .ok) (k .few)) ∙ words-back words u g)
+    (joiningAll (stationsIn words), r, after-run r .0 ∙ ap wordsOf (present-joining (k .rows) (k .ok) (k .few)) ∙ words-back words u w)

@@ -1,11 +1,10 @@
 // Why a call on the board is refused: the first number of the card's order, 0 where there is none.
+use crate::AIR;
 use crate::accepted::board_ok;
 use crate::accepted::is_id;
 use crate::places::is_on;
 use floats::range::all_finite;
 ghost use mathlib.Core.Path.{_≡_};
-ghost use mathlib.Core.Bool.{true};
-ghost use Rattle.board.specs.Words.{boardOk};
 ghost use Rattle.board.specs.Calls.{joinAnswer, leaveAnswer, showAnswer};
 
 pub(crate) fn join_refusal(board: &[u32], id: u32, row: &[f32]) -> u8
@@ -19,7 +18,7 @@ pub(crate) fn join_refusal(board: &[u32], id: u32, row: &[f32]) -> u8
         return answers::SPACE;
     }
     let n = board[0] as usize;
-    let new = !is_on(board, n, id);
+    let new = !is_on(&board[..AIR], n, id);
     let may = is_id(id) & new;
     if !may {
         return answers::CALL;
@@ -37,7 +36,7 @@ pub(crate) fn leave_refusal(board: &[u32], id: u32) -> u8
         return answers::SPACE;
     }
     let n = board[0] as usize;
-    let may = is_id(id) & is_on(board, n, id);
+    let may = is_id(id) & is_on(&board[..AIR], n, id);
     if !may {
         return answers::CALL;
     }

@@ -3,7 +3,7 @@ ghost use mathlib.Core.Path.{_≡_};
 ghost use lib.ListN.{length};
 ghost use Rattle.board.specs.Calls.{emptyAnswer, emptyLeaves, joinAnswer, joinLeaves, leaveAnswer, leaveLeaves, showAnswer, showNumbers, showIds};
 
-// An empty board over 5,777 words: 0; or 8 for words of another number.
+// An empty board over 6,497 words: 0; or 8 for words of another number.
 #[no_mangle]
 pub extern "C" fn hf_board_empty(board: &mut [u32]) -> u32
     ensures { λ r. ⌜ r ≡ emptyAnswer (now (board .entry)) ⌝ }

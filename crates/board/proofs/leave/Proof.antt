@@ -1,14 +1,17 @@
 -- `board::leave` meets its contract.
-use mathlib.Core.Path.{_≡_, refl, sym, ap, _∙_}
-use mathlib.Core.List.{List}
-use Prim.Native.Nat.{ℕ, _+_, _-_, _*_, _<_}
-use lib.ListN.{drop, set, replicate, length-set}
+use mathlib.Core.Path.{_≡_, sym, ap, _∙_}
+use mathlib.Core.List.{_++_}
+use lib.ListN.{length}
+use lib.Seq.{length-take-le}
 use borrow.Author.Tests.{lt-ltb}
-use Rattle.words.specs.Laid.{laid}
-use Rattle.board.specs.Words.{countIn}
+use Rattle.board.specs.Runs.{without}
+use Rattle.board.specs.Words.{airSize, airIn, airOf, stationsTo, stationsOn, stationsIn, stationsOk, boardOk}
+use Rattle.board.specs.Steps.{keptBy, renewed}
 use Rattle.board.specs.Calls.{leaveAnswer, leaveLeaves}
-use Rattle.board.proofs.Good.{Good}
-use Rattle.board.proofs.Changes.{leave-board, leave-slot, leave-left}
+use Rattle.board.proofs.Answers.{MayLeave}
+use Rattle.board.proofs.Boards.{Whole, whole, OnAir, air-of}
+use Rattle.board.proofs.Parts.{front-length, front-count, front-all}
+use Rattle.board.proofs.Changes.{counted, leaving, left-on, leave-left}
 use native.Mathlib.Omega.{arith}
 use borrow.Author.Needs.{needs}
 use Rattle.board.proofs.leave.Statement.{statement}
@@ -21,14 +24,18 @@ start c = c .before .before .before .before
 accepted : (c : tie.Else1) → leaveAnswer (start c .args .board .now) (start c .args .id) ≡ 0
 accepted c = let zero : c .before .leave-refusal .result ≡ 0 = omega arith in sym (c .before .leave-refusal .ensures) ∙ zero
 
-board-known : (c : tie.Else1) → Good (start c .args .board .now)
-board-known c = leave-board (start c .args .board .now) (start c .args .id) (accepted c)
+may : (c : tie.Else1) → MayLeave (boardOk (start c .args .board .now)) (stationsIn (start c .args .board .now)) (start c .args .id)
+may c = leaving (start c .args .board .now) (start c .args .id) (accepted c)
 
--- the one that leaves has a place below the count
-inside : (c : tie.After-slot-of) → c .slot-of .result < countIn (start (c .before .before .before) .args .board .now)
-inside c =
-    let e = c .before .before .before in
-    rw (c .slot-of .ensures) (leave-slot (start e .args .board .now) (start e .args .id) (accepted e) (λ i. c .before .before .slice-known2 .given i .fits))
+known : (c : tie.Else1) → Whole (start c .args .board .now)
+known c = whole (start c .args .board .now) (may c .good)
+
+air-size : (c : tie.Else1) → length (airIn (start c .args .board .now)) ≡ airSize
+air-size c = length-take-le airSize (start c .args .board .now) (omega (arith, known c .size))
+
+-- those left
+rest : (c : tie.Else1) → OnAir (without (start c .args .id) (stationsIn (start c .args .board .now)))
+rest c = left-on (start c .args .board .now) (start c .args .id) (accepted c) (λ i. c .before .before .before .slice-known .given i .fits)
 
 leave-refusal-requires : tie.Need-leave-refusal-requires
 leave-refusal-requires c κs = search needs
@@ -40,57 +47,52 @@ returns : tie.Need-returns
 unfolding leaveLeaves
 returns c = (c .before .leave-refusal .ensures, rw (← c .before .leave-refusal .ensures, lt-ltb _ _ (c .if1 .taken)))
 
-slice-read-n : tie.Need-slice-read-n
-slice-read-n c = omega (arith, board-known (c .before) .size)
+slice-relend-prefix-remove : tie.Need-slice-relend-prefix-remove
+slice-relend-prefix-remove c = omega (arith, known c .size)
 
-cast-n : tie.Need-cast-n
-cast-n c = omega (arith, c .slice-known2 .given 0)
+slice-aggregate-remove : tie.Need-slice-aggregate-remove
+slice-aggregate-remove c = sym (air-size (c .before))
 
-slot-of-requires : tie.Need-slot-of-requires
-slot-of-requires c κs = (board-known (c .before .before) .size, board-known (c .before .before) .few)
+remove-requires : tie.Need-remove-requires
+remove-requires c κs = (known (c .before) .air, may (c .before) .present)
 
-mul-close-gap : tie.Need-mul-close-gap
-mul-close-gap c = omega (arith, inside (c .before), board-known (c .before .before .before .before) .few)
+slice-read-left : tie.Need-slice-read-left
+slice-read-left c =
+    let e = c .before .before .before .before .before in
+    let gone = c .before .before .before .remove in
+    omega (arith, front-length (start e .args .board .now) (gone .ensures) (gone .kept .0 ∙ air-size e) (known e .size))
 
-add-close-gap : tie.Need-add-close-gap
-add-close-gap c = omega (arith, inside (c .before), board-known (c .before .before .before .before) .few)
+cast-left : tie.Need-cast-left
+cast-left c = omega (arith, c .slice-known3 .given 0)
 
-close-gap-requires : tie.Need-close-gap-requires
-close-gap-requires c κs =
-    let board = board-known (c .before .before .before .before) in
-    omega (arith, inside (c .before), board .few, board .size)
-
-sub-clear : tie.Need-sub-clear
-sub-clear c = search needs
-
-clear-requires : tie.Need-clear-requires
-clear-requires c κs = omega (arith, board-known (c .before .before .before .before .before .before .before .before) .size, c .before .before .before .close-gap .kept .0)
-
-cast-board : tie.Need-cast-board
-cast-board c = omega (arith, board-known (c .before .before .before .before .before .before .before .before .before .before .before) .few)
-
-sub-board : tie.Need-sub-board
-sub-board c = omega (arith, inside (c .before .before .before .before .before .before .before .before))
-
-slice-write-board : tie.Need-slice-write-board
-slice-write-board c = omega (arith, board-known (c .before .before .before .before .before .before .before .before .before .before .before) .size, c .before .before .clear .kept .0, c .before .before .before .before .before .before .close-gap .kept .0)
+renew-requires : tie.Need-renew-requires
+unfolding stationsOn
+renew-requires c κs =
+    let e = c .before .before .before .before .before .before in
+    let words = start e .args .board .now in
+    let gone = c .before .before .before .before .remove in
+    let n = gone .kept .0 ∙ air-size e in
+    let k = rest e in
+    let few = counted (airOf (without (start e .args .id) (stationsIn words))) (air-of k .0) in (
+      front-length words (gone .ensures) n (known e .size),
+      omega (arith, front-count words (gone .ensures) n, few, ap length (air-of k .1), k .few),
+      front-all words (gone .ensures) n (λ air m kept. stationsOk (stationsTo air m)) ∙ ap stationsOk (air-of k .1) ∙ k .ok,
+    )
 
 same-length-2 : tie.Need-same-length-2
-same-length-2 c = simp length-set (c .before .before .clear .kept .0 ∙ c .before .before .before .before .before .before .close-gap .kept .0)
+same-length-2 c = search needs
 
 returns-2 : tie.Need-returns-2
 unfolding leaveLeaves
 returns-2 c =
-    let e = c .before .before .before .before .before .before .before .before .before .before .before in
-    let words = start e .args .board .now in
-    let zeros = replicate {A = ℕ} 361 0 in
-    let at = ap (λ (k : ℕ). 1 + 361 * k) (c .before .before .before .before .before .before .before .before .slot-of .ensures) in (
+    let e = c .before .before .before .before .before .before .before .before .before in
+    let a = start e .args in
+    let words = a .board .now in
+    let gone = c .before .before .before .before .before .before .before .remove in (
       sym (accepted e),
-      ap (λ (l : List ℕ). set l 0 (countIn words - 1))
-          (c .before .before .clear .ensures
-          ∙ ap (λ (l : List ℕ). laid l 5416 zeros) (c .before .before .before .before .before .before .close-gap .ensures)
-          ∙ ap (λ (k : ℕ). laid (laid words k (drop (k + 361) words)) 5416 zeros) at)
-          ∙ leave-left words (start e .args .id) (accepted e) (λ i. c .before .before .before .before .before .before .before .before .before .before .slice-known2 .given i .fits) 361 refl,
+      c .before .before .renew .ensures
+          ∙ front-all words (gone .ensures) (gone .kept .0 ∙ air-size e) (λ air m kept. air ++ keptBy (renewed (a .id) (stationsTo air m) kept))
+          ∙ leave-left words (a .id) (accepted e) (λ i. c .before .before .before .before .before .before .before .before .before .before .before .before .slice-known .given i .fits),
     )
 
 pub leave-spec : {M : Type 1} → statement M
@@ -100,16 +102,11 @@ leave-spec =
     leave-refusal-requires
     same-length
     returns
-    slice-read-n
-    cast-n
-    slot-of-requires
-    mul-close-gap
-    add-close-gap
-    close-gap-requires
-    sub-clear
-    clear-requires
-    cast-board
-    sub-board
-    slice-write-board
+    slice-relend-prefix-remove
+    slice-aggregate-remove
+    remove-requires
+    slice-read-left
+    cast-left
+    renew-requires
     same-length-2
     returns-2)

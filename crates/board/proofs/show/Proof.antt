@@ -1,9 +1,16 @@
 -- `board::show` meets its contract.
-use mathlib.Core.Path.{_≡_, sym, _∙_}
-use lib.ListN.{length}
+use mathlib.Core.Path.{_≡_, sym, ap, _∙_}
+use mathlib.Core.List.{List}
+use Prim.Native.Nat.{ℕ, _+_}
+use lib.ListN.{length, getD, length-take, length-drop}
+use lib.Ieee.{binary32, ofBits}
 use borrow.Author.Tests.{lt-ltb}
+use Rattle.board.specs.Stations.{upTo}
 use Rattle.board.specs.Words.{stationsIn}
 use Rattle.board.specs.Calls.{showAnswer, showNumbers, showIds}
+use Rattle.board.proofs.Boards.{stations-on-air}
+use Rattle.board.proofs.Parts.{rest-part}
+use Rattle.board.proofs.Keeping.{numbers-kept, ids-kept}
 use Rattle.board.proofs.Changes.{Shows, shows}
 use native.Mathlib.Omega.{arith}
 use borrow.Author.Needs.{needs}
@@ -29,16 +36,19 @@ returns c =
     let number = c .before .show-refusal .ensures in
     (number, (rw (← number, lt-ltb _ _ (c .if1 .taken)), rw (← number, lt-ltb _ _ (c .if1 .taken))))
 
-shared-slice-read-put-shown : tie.Need-shared-slice-read-put-shown
-shared-slice-read-put-shown c = omega (arith, known (c .before) .board .size)
+sub-put-kept : tie.Need-sub-put-kept
+sub-put-kept c = omega (arith, known c .board .size)
 
-cast-put-shown : tie.Need-cast-put-shown
-cast-put-shown c = omega (arith, c .shared-slice-known2 .given 0)
+part-put-kept-start : tie.Need-part-put-kept-start
+part-put-kept-start c = omega (arith, known c .board .size)
 
-put-shown-requires : tie.Need-put-shown-requires
-put-shown-requires c κs =
+part-put-kept-end : tie.Need-part-put-kept-end
+part-put-kept-end c = omega (arith, known c .board .size)
+
+put-kept-requires : tie.Need-put-kept-requires
+put-kept-requires c κs =
     let k = known (c .before .before .before) in
-    (k .board .size, k .board .few, k .board .ok, k .whole .0, k .whole .1)
+    (simp (length-take, length-drop) (omega (arith, k .board .size)), k .whole .0, k .whole .1)
 
 same-length : tie.Need-same-length
 same-length c = search needs
@@ -47,11 +57,23 @@ same-length-2 : tie.Need-same-length-2
 same-length-2 c = search needs
 
 returns-2 : tie.Need-returns-2
-unfolding showNumbers showIds stationsIn
+unfolding showNumbers showIds
 returns-2 c =
     let e = c .before .before .before .before .before .before .before .before in
-    let shown = c .before .before .before .before .put-shown .ensures in
-    (sym (accepted e), (rw (accepted e) (shown .0), rw (accepted e) (shown .1)))
+    let words = start e .args .board .now in
+    let put = c .before .before .before .before .put-kept .ensures in
+    let w = known e .board in
+    let kept = rest-part 5777 words ∙ w .kept in
+    let ss = stationsIn words in (
+      sym (accepted e),
+      (
+        rw (accepted e)
+            (put .0
+            ∙ ap (λ (l : List ℕ). upTo (λ (v : ℕ). ofBits binary32 (getD l v 0)) 360) kept
+            ∙ numbers-kept ss (stations-on-air words (λ i. c .before .before .before .before .before .before .before .before .before .before .before .before .shared-slice-known .given i .fits) w)),
+        rw (accepted e) (put .1 ∙ ap (λ (l : List ℕ). upTo (λ (v : ℕ). getD l (360 + v) 0) 360) kept ∙ ids-kept ss),
+      ),
+    )
 
 pub show-spec : {M : Type 1} → statement M
 show-spec =
@@ -59,9 +81,10 @@ show-spec =
     (tie.spec
     show-refusal-requires
     returns
-    shared-slice-read-put-shown
-    cast-put-shown
-    put-shown-requires
+    sub-put-kept
+    part-put-kept-start
+    part-put-kept-end
+    put-kept-requires
     same-length
     same-length-2
     returns-2)

@@ -1,6 +1,6 @@
 //! The exercise board: runs of hundreds of calls, of which the oracle keeps the list of those on the air; and calls on damaged words.
 use crate::cases::{first_difference, run};
-use oracle::board::{self, Air, AZIMUTHS, WORDS};
+use oracle::board::{self, Air, AIR, AZIMUTHS, WORDS};
 use oracle::random::Random;
 use oracle::report::Comparison;
 use oracle::service;
@@ -98,8 +98,8 @@ fn damaged(random: &mut Random) -> Vec<u32> {
     let mut words = air.words();
     let count = air.count();
     let place = |random: &mut Random, n: usize| 1 + 361 * random.below(n.max(1) as u64) as usize;
-    match random.below(10) {
-        0 => words.resize(random.pick(&[0, 1, 5415, 5776, 5778, 11_554]), 0),
+    match random.below(13) {
+        0 => words.resize(random.pick(&[0, 1, AIR, WORDS - 1, WORDS + 1, 2 * WORDS]), 0),
         1 => words[0] = random.pick(&[0, 15, 16, 17, 18, u32::MAX, count as u32 + 1, (count as u32).wrapping_sub(1)]),
         2 => words[place(random, count)] = random.pick(&[0, 65_535, 65_536, u32::MAX]),
         3 => {
@@ -110,10 +110,17 @@ fn damaged(random: &mut Random) -> Vec<u32> {
             let at = place(random, count) + 1 + random.below(360) as usize;
             words[at] = random.pick(&[0x7f80_0000, 0xff80_0000, 0x7fc0_0000, 0xffff_ffff, 0x7f7f_ffff, 0x8000_0000]);
         }
-        5 => words[WORDS - 1 - random.below(361) as usize] = random.pick(&[1, 0x8000_0000]),
+        5 => words[AIR - 1 - random.below(361) as usize] = random.pick(&[1, 0x8000_0000]),
         6 => {
             let at = random.below(WORDS as u64) as usize;
             words[at] ^= 1 << random.below(32);
+        }
+        7 => words[AIR + random.below(360) as usize] ^= 1 << random.below(32),
+        8 => words[WORDS - 1 - random.below(360) as usize] = random.pick(&[0, 1, 2, 40, 65_536]),
+        // Another of those on is shown, with its own number.
+        9 => {
+            let (from, v) = (place(random, count), random.below(360) as usize);
+            (words[AIR + v], words[AIR + AZIMUTHS + v]) = (words[from + 1 + v], words[from]);
         }
         _ => {}
     }

@@ -12,10 +12,10 @@ use Rattle.board.proofs.accepted.blank_from.Statement.{statement}
 use Rattle.board.proofs.accepted.blank_from.Tie as tie
 
 abbrev Inv-loop : tie.InvT-loop
-Inv-loop board at ok₀ i₀ ok i = ((ok && blank (drop i board)) ≡ blank (drop at board)) × (i ≤ length board)
+Inv-loop air at ok₀ i₀ ok i = ((ok && blank (drop i air)) ≡ blank (drop at air)) × (i ≤ length air)
 
 abbrev μ-loop : tie.MeasureT-loop
-μ-loop board at ok₀ i₀ ok i = length board - i
+μ-loop air at ok₀ i₀ ok i = length air - i
 
 loop-holds : tie.Need-loop-holds Inv-loop μ-loop
 loop-holds c = (refl, omega arith)
@@ -35,7 +35,7 @@ loop-less c = omega arith
 loop-again : tie.Need-loop-again Inv-loop μ-loop
 unfolding blank
 loop-again c =
-    let words = c .before .before .before .args .board .now in
+    let words = c .before .before .before .args .air .now in
     let head = c .before .before .loop in
     let more : head .i < length words = omega arith in
     (rw (add-one, ← and-more (head .ok)) (rw (drop-cons words (head .i) 0 more) at (head .inv .0)), omega arith)
@@ -43,7 +43,7 @@ loop-again c =
 returns : tie.Need-returns Inv-loop μ-loop
 unfolding blank
 returns c =
-    let words = c .before .before .args .board .now in
+    let words = c .before .before .args .air .now in
     let e : c .before .loop .i ≡ length words = omega arith in
     sym (and-true (c .before .loop .ok)) ∙ (rw (e, drop-length) at (c .before .loop .inv .0))
 

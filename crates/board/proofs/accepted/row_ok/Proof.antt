@@ -12,10 +12,10 @@ use Rattle.board.proofs.accepted.row_ok.Statement.{statement}
 use Rattle.board.proofs.accepted.row_ok.Tie as tie
 
 abbrev Inv-loop : tie.InvT-loop
-Inv-loop board at ok₀ v₀ ok v = (ok ≡ finiteTo (rowIn board at) v) × (v ≤ 360)
+Inv-loop air at ok₀ v₀ ok v = (ok ≡ finiteTo (rowIn air at) v) × (v ≤ 360)
 
 abbrev μ-loop : tie.MeasureT-loop
-μ-loop board at ok₀ v₀ ok v = 360 - v
+μ-loop air at ok₀ v₀ ok v = 360 - v
 
 loop-holds : tie.Need-loop-holds Inv-loop μ-loop
 unfolding finiteTo
@@ -44,14 +44,14 @@ unfolding finiteTo
 loop-again c =
     let head = c .before .before .before in
     let a = head .before .before .args in
-    (rw (c .finite-bits .ensures, head .loop .inv .0, add-one, number-read (a .board .now) (a .at) (omega arith) (head .loop .v) (omega arith)), omega arith)
+    (rw (c .finite-bits .ensures, head .loop .inv .0, add-one, number-read (a .air .now) (a .at) (omega arith) (head .loop .v) (omega arith)), omega arith)
 
 returns : tie.Need-returns Inv-loop μ-loop
 unfolding allFinite
 returns c =
     let a = c .before .before .before .args in
-    let e : c .before .loop .v ≡ length (rowIn (a .board .now) (a .at)) = omega (arith, row-length (a .board .now) (a .at) (omega arith)) in
-    c .before .loop .inv .0 ∙ ap (finiteTo (rowIn (a .board .now) (a .at))) e
+    let e : c .before .loop .v ≡ length (rowIn (a .air .now) (a .at)) = omega (arith, row-length (a .air .now) (a .at) (omega arith)) in
+    c .before .loop .inv .0 ∙ ap (finiteTo (rowIn (a .air .now) (a .at))) e
 
 pub row-ok-spec : {M : Type 1} → statement M
 row-ok-spec =

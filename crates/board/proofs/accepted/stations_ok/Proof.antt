@@ -9,10 +9,10 @@ use Rattle.board.proofs.accepted.stations_ok.Statement.{statement}
 use Rattle.board.proofs.accepted.stations_ok.Tie as tie
 
 abbrev Inv-loop : tie.InvT-loop
-Inv-loop board n ok₀ k₀ ok k = (ok ≡ stationsOk (stationsTo board k)) × (k ≤ n)
+Inv-loop air n ok₀ k₀ ok k = (ok ≡ stationsOk (stationsTo air k)) × (k ≤ n)
 
 abbrev μ-loop : tie.MeasureT-loop
-μ-loop board n ok₀ k₀ ok k = n - k
+μ-loop air n ok₀ k₀ ok k = n - k
 
 loop-holds : tie.Need-loop-holds Inv-loop μ-loop
 unfolding stationsOk stationsTo

@@ -10,22 +10,22 @@ use Rattle.board.proofs.change.clear.Statement.{statement}
 use Rattle.board.proofs.change.clear.Tie as tie
 
 abbrev Inv-loop : tie.InvT-loop
-Inv-loop board₀ at n i₀ board i = (board ≡ paste board₀ at (replicate n 0) i) × (length board ≡ length board₀) × (i ≤ n)
+Inv-loop words₀ at n i₀ words i = (words ≡ paste words₀ at (replicate n 0) i) × (length words ≡ length words₀) × (i ≤ n)
 
 abbrev μ-loop : tie.MeasureT-loop
-μ-loop board₀ at n i₀ board i = n - i
+μ-loop words₀ at n i₀ words i = n - i
 
 loop-holds : tie.Need-loop-holds Inv-loop μ-loop
-loop-holds c = (paste-zero (c .args .board .now) (c .args .at) (replicate (c .args .n) 0), refl, omega arith)
+loop-holds c = (paste-zero (c .args .words .now) (c .args .at) (replicate (c .args .n) 0), refl, omega arith)
 
-add-board : tie.Need-add-board Inv-loop μ-loop
-add-board c = omega arith
+add-words : tie.Need-add-words Inv-loop μ-loop
+add-words c = omega arith
 
-mul-board : tie.Need-mul-board Inv-loop μ-loop
-mul-board c = omega arith
+mul-words : tie.Need-mul-words Inv-loop μ-loop
+mul-words c = omega arith
 
-slice-write-board : tie.Need-slice-write-board Inv-loop μ-loop
-slice-write-board c = omega arith
+slice-write-words : tie.Need-slice-write-words Inv-loop μ-loop
+slice-write-words c = omega arith
 
 add-i : tie.Need-add-i Inv-loop μ-loop
 add-i c = omega arith
@@ -37,7 +37,7 @@ loop-again : tie.Need-loop-again Inv-loop μ-loop
 loop-again c =
     let a = c .before .before .args in
     let head = c .before .loop in (
-      rw (head .inv .0) (paste-more (a .board .now) (a .at) (replicate (a .n) 0) (head .i) 0 (omega arith) (omega (arith, length-replicate {A = ℕ} (a .n) 0)) (sym (getD-replicate (a .n) (head .i) 0 0 (omega arith)))),
+      rw (head .inv .0) (paste-more (a .words .now) (a .at) (replicate (a .n) 0) (head .i) 0 (omega arith) (omega (arith, length-replicate {A = ℕ} (a .n) 0)) (sym (getD-replicate (a .n) (head .i) 0 0 (omega arith)))),
       rw length-set (head .inv .1),
       omega arith,
     )
@@ -48,7 +48,7 @@ same-length c = c .before .loop .inv .1
 returns : tie.Need-returns Inv-loop μ-loop
 returns c =
     let a = c .before .before .args in
-    c .before .loop .inv .0 ∙ laid-pasted (a .board .now) (a .at) (replicate (a .n) 0) (c .before .loop .i) (omega (arith, length-replicate {A = ℕ} (a .n) 0))
+    c .before .loop .inv .0 ∙ laid-pasted (a .words .now) (a .at) (replicate (a .n) 0) (c .before .loop .i) (omega (arith, length-replicate {A = ℕ} (a .n) 0))
 
 pub clear-spec : {M : Type 1} → statement M
 clear-spec =
@@ -57,9 +57,9 @@ clear-spec =
     Inv-loop
     μ-loop
     loop-holds
-    add-board
-    mul-board
-    slice-write-board
+    add-words
+    mul-words
+    slice-write-words
     add-i
     loop-less
     loop-again

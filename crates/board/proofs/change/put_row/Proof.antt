@@ -13,15 +13,15 @@ use Rattle.board.proofs.change.put_row.Statement.{statement}
 use Rattle.board.proofs.change.put_row.Tie as tie
 
 abbrev Inv-loop : tie.InvT-loop
-Inv-loop board₀ at row i₀ board i = (board ≡ paste board₀ at (map (toBits binary32) row) i) × (length board ≡ length board₀) × (i ≤ length row)
+Inv-loop words₀ at row i₀ words i = (words ≡ paste words₀ at (map (toBits binary32) row) i) × (length words ≡ length words₀) × (i ≤ length row)
 
 abbrev μ-loop : tie.MeasureT-loop
-μ-loop board₀ at row i₀ board i = length row - i
+μ-loop words₀ at row i₀ words i = length row - i
 
 loop-holds : tie.Need-loop-holds Inv-loop μ-loop
 loop-holds c =
     let a = c .before .before .args in
-    (paste-zero (a .board .now) (a .at) (map (toBits binary32) (a .row .now)), refl, omega arith)
+    (paste-zero (a .words .now) (a .at) (map (toBits binary32) (a .row .now)), refl, omega arith)
 
 mul-bits-of : tie.Need-mul-bits-of Inv-loop μ-loop
 mul-bits-of c = omega arith
@@ -32,14 +32,14 @@ shared-slice-read-bits-of c = omega arith
 bits-of-requires : tie.Need-bits-of-requires Inv-loop μ-loop
 bits-of-requires c κs = search needs
 
-add-board : tie.Need-add-board Inv-loop μ-loop
-add-board c = omega arith
+add-words : tie.Need-add-words Inv-loop μ-loop
+add-words c = omega arith
 
-mul-board : tie.Need-mul-board Inv-loop μ-loop
-mul-board c = omega arith
+mul-words : tie.Need-mul-words Inv-loop μ-loop
+mul-words c = omega arith
 
-slice-write-board : tie.Need-slice-write-board Inv-loop μ-loop
-slice-write-board c = omega arith
+slice-write-words : tie.Need-slice-write-words Inv-loop μ-loop
+slice-write-words c = omega arith
 
 add-i : tie.Need-add-i Inv-loop μ-loop
 add-i c = omega arith
@@ -53,7 +53,7 @@ loop-again c =
     let a = head .before .before .before .args in
     let bits = map (toBits binary32) (a .row .now) in
     let bit = c .bits-of .ensures ∙ sym (List·getD-map (toBits binary32) (a .row .now) (head .loop .i) nan) in (
-      rw (head .loop .inv .0) (paste-more (a .board .now) (a .at) bits (head .loop .i) (toBits binary32 nan) (omega arith) (omega (arith, length-map (a .row .now) (toBits binary32))) bit),
+      rw (head .loop .inv .0) (paste-more (a .words .now) (a .at) bits (head .loop .i) (toBits binary32 nan) (omega arith) (omega (arith, length-map (a .row .now) (toBits binary32))) bit),
       rw length-set (head .loop .inv .1),
       omega arith,
     )
@@ -65,7 +65,7 @@ returns : tie.Need-returns Inv-loop μ-loop
 returns c =
     let a = c .before .before .before .before .args in
     c .before .loop .inv .0
-    ∙ laid-pasted (a .board .now) (a .at) (map (toBits binary32) (a .row .now)) (c .before .loop .i) (omega (arith, length-map (a .row .now) (toBits binary32)))
+    ∙ laid-pasted (a .words .now) (a .at) (map (toBits binary32) (a .row .now)) (c .before .loop .i) (omega (arith, length-map (a .row .now) (toBits binary32)))
 
 pub put-row-spec : {M : Type 1} → statement M
 put-row-spec =
@@ -77,9 +77,9 @@ put-row-spec =
     mul-bits-of
     shared-slice-read-bits-of
     bits-of-requires
-    add-board
-    mul-board
-    slice-write-board
+    add-words
+    mul-words
+    slice-write-words
     add-i
     loop-less
     loop-again

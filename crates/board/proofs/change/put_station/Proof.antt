@@ -11,11 +11,11 @@ use borrow.Author.Needs.{needs}
 use Rattle.board.proofs.change.put_station.Statement.{statement}
 use Rattle.board.proofs.change.put_station.Tie as tie
 
-mul-board : tie.Need-mul-board
-mul-board c = search needs
+mul-words : tie.Need-mul-words
+mul-words c = search needs
 
-slice-write-board : tie.Need-slice-write-board
-slice-write-board c = search needs
+slice-write-words : tie.Need-slice-write-words
+slice-write-words c = search needs
 
 add-put-row : tie.Need-add-put-row
 add-put-row c = search needs
@@ -31,10 +31,10 @@ returns c =
     let a = c .before .before .before .before .before .before .args in
     let bits = map (toBits binary32) (a .row .now) in
     c .before .before .put-row .ensures
-    ∙ ap (λ (l : List ℕ). laid l (a .at + 1) bits) (laid-one (a .board .now) (a .at) (a .id) (omega arith))
-    ∙ laid-more (a .board .now) (a .at) (a .at + 1) (a .id ∷ []) bits (omega arith) (omega arith)
+    ∙ ap (λ (l : List ℕ). laid l (a .at + 1) bits) (laid-one (a .words .now) (a .at) (a .id) (omega arith))
+    ∙ laid-more (a .words .now) (a .at) (a .at + 1) (a .id ∷ []) bits (omega arith) (omega arith)
 
 pub put-station-spec : {M : Type 1} → statement M
 put-station-spec =
     tie.close
-    (tie.spec mul-board slice-write-board add-put-row put-row-requires same-length returns)
+    (tie.spec mul-words slice-write-words add-put-row put-row-requires same-length returns)

@@ -16,8 +16,8 @@ slot-of-requires c κs = search needs
 returns : tie.Need-returns
 returns c =
     let a = c .before .before .args in
-    let ss = stationsTo (a .board .now) (a .n) in
-    ap (λ (k : ℕ). ltb k 16) (c .slot-of .ensures) ∙ slot-on (a .id) ss (omega (arith, stations-length (a .board .now) (a .n)))
+    let ss = stationsTo (a .air .now) (a .n) in
+    ap (λ (k : ℕ). ltb k 16) (c .slot-of .ensures) ∙ slot-on (a .id) ss (omega (arith, stations-length (a .air .now) (a .n)))
 
 pub is-on-spec : {M : Type 1} → statement M
 is-on-spec = tie.close (tie.spec slot-of-requires returns)

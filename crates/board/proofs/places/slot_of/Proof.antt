@@ -12,10 +12,10 @@ use Rattle.board.proofs.places.slot_of.Statement.{statement}
 use Rattle.board.proofs.places.slot_of.Tie as tie
 
 abbrev Inv-loop : tie.InvT-loop
-Inv-loop board n id slot₀ k₀ slot k = (slot ≡ slotOf id (stationsTo board k)) × (k ≤ n)
+Inv-loop air n id slot₀ k₀ slot k = (slot ≡ slotOf id (stationsTo air k)) × (k ≤ n)
 
 abbrev μ-loop : tie.MeasureT-loop
-μ-loop board n id slot₀ k₀ slot k = n - k
+μ-loop air n id slot₀ k₀ slot k = n - k
 
 loop-holds : tie.Need-loop-holds Inv-loop μ-loop
 unfolding slotOf stationsTo
@@ -44,7 +44,7 @@ unfolding slotOf stationsTo stationAt
 loop-again c =
     let head = c .before .before .before in (
       ⊎-elim
-          (λ w. rw (add-one, eq-eqb _ _ (w .0 .taken)) (w .1 ∙ sym (stations-length (head .before .args .board .now) (head .loop .k))))
+          (λ w. rw (add-one, eq-eqb _ _ (w .0 .taken)) (w .1 ∙ sym (stations-length (head .before .args .air .now) (head .loop .k))))
           (λ w. rw (add-one, ne-eqb _ _ (w .0 .left)) (w .1 ∙ head .loop .inv .0))
           (c .if1 .came),
       omega arith,
