@@ -3,7 +3,7 @@
  *
  * Every call is total. What is lent (a pointer, then the number of its elements) must be readable, and writable where it isn't
  * const; two lent pieces of one call must not overlap. That is all that a caller owes. A call keeps no state and no pointer, so
- * threads may call at once. hf_gains and hf_plate take up to 180 kB of the stack, hf_setup 130, the others under 32 (measured on
+ * threads may call at once. hf_gains and hf_plate take up to 190 kB of the stack, hf_setup 130, the others under 32 (measured on
  * x86-64).
  *
  * A refusal leaves all that is lent as it was. "bits" are a 32-bit float's; a NaN is 7FC00000.
