@@ -1,18 +1,18 @@
 -- Laws of the sine and the cosine for every float: oddness and evenness, and bounds.
-use mathlib.Core.Path.{_≡_, refl, sym, subst}
-use Prim.Native.Nat.{_+_, _%_, ℕ, zero, suc, _^_, _≤_}
-use mathlib.Core.Bool.{Bool, true, false, not, cond}
+use mathlib.Core.Path.{_≡_, refl, sym, ap, _∙_, subst}
+use Prim.Native.Nat.{_%_, ℕ, zero, suc, _^_, _≤_}
+use mathlib.Core.Bool.{Bool, true, false, not, cond, _||_}
 use native.Mathlib.Omega.{arith}
 use lib.IntN.{pos}
-use lib.Dec.{T, leb, le→leb}
+use lib.Dec.{T, leb, eqb, le→leb}
 use lib.Signed.{leZ-yes}
 use lib.Ieee.{Float, nan, inf, fin, round, neg, le, isNan}
-use Rattle.numeric.specs.Float.{signBit}
+use Rattle.numeric.specs.Float.{mag, signBit, withSign}
 use Rattle.numeric.specs.Rounding.{F, truncated}
 use Rattle.numeric.specs.Sine.{UnitBounded, sine, cosine, sineAt, cosineAt, sineUnits, cosineUnits, inDomain, quarter, past, pick, nextTerm, sums, cut}
 use Rattle.numeric.specs.Inner.{unsigned}
 use Rattle.numeric.proofs.rounding.Laws.{F-mono, F-unsigned}
-use Rattle.numeric.proofs.Signs.{neg-neg, neg-below, neg-turns}
+use Rattle.numeric.proofs.Signs.{neg-neg, neg-below, neg-turns, unsigned-mag, unsigned-number}
 use Rattle.numeric.proofs.sine.Terms.{cut-le}
 
 -- ---- the sine is odd, the cosine even
@@ -40,41 +40,61 @@ pub sine-zero : sine (fin false 0 (pos 0)) ≡ fin false 0 (pos 0)
 unfolding sine quarter past sineAt sineUnits cosineUnits cut sums nextTerm F neg round le
 sine-zero = refl
 
--- ---- the quarters: the cosine is the sine a quarter on; S stands in the even quarters and C in the odd ones, negated from the third on
-pub cosine-at : (q t : ℕ) → q ≤ 3 → cosineAt q t ≡ sineAt ((q + 1) % 4) t
-unfolding cosineAt sineAt
-cosine-at zero t h = refl
-cosine-at (suc zero) t h = refl
-cosine-at (suc (suc zero)) t h = refl
-cosine-at (suc (suc (suc zero))) t h = refl
-cosine-at (suc (suc (suc (suc q)))) t h = absurd (none h)
-  where
-    none : suc (suc (suc (suc q))) ≤ 3 → ⊥
-    none h = omega arith
-
-pub sine-even : (q t : ℕ) → q ≤ 3 → q % 2 ≡ 0 → let s = F (pos (sineUnits t)) in sineAt q t ≡ cond (leb 2 q) (neg s) s
+-- ---- the quarters: the sine has S in the even ones and C in the odd ones, negated from the third on; the cosine the other way round, negated in the second and third
+pub sine-at-even : (q t : ℕ) → q ≤ 3 → q % 2 ≡ 0 → let s = F (pos (sineUnits t)) in sineAt q t ≡ cond (leb 2 q) (neg s) s
 unfolding sineAt
-sine-even zero t h e = refl
-sine-even (suc zero) t h e = absurd (none e)
+sine-at-even zero t h e = refl
+sine-at-even (suc zero) t h e = absurd (none e)
   where
     none : 1 % 2 ≡ 0 → ⊥
     none e = omega arith
-sine-even (suc (suc zero)) t h e = refl
-sine-even (suc (suc (suc q))) t h e = absurd (none q h e)
+sine-at-even (suc (suc zero)) t h e = refl
+sine-at-even (suc (suc (suc q))) t h e = absurd (none q h e)
   where
     none : (q : ℕ) → suc (suc (suc q)) ≤ 3 → suc (suc (suc q)) % 2 ≡ 0 → ⊥
     none q h e = omega arith
 
-pub sine-uneven : (q t : ℕ) → q ≤ 3 → (q % 2 ≡ 0 → ⊥) → let c = F (pos (cosineUnits t)) in sineAt q t ≡ cond (leb 2 q) (neg c) c
+pub sine-at-uneven : (q t : ℕ) → q ≤ 3 → (q % 2 ≡ 0 → ⊥) → let c = F (pos (cosineUnits t)) in sineAt q t ≡ cond (leb 2 q) (neg c) c
 unfolding sineAt
-sine-uneven zero t h e = absurd (e refl)
-sine-uneven (suc zero) t h e = refl
-sine-uneven (suc (suc zero)) t h e = absurd (e refl)
-sine-uneven (suc (suc (suc zero))) t h e = refl
-sine-uneven (suc (suc (suc (suc q)))) t h e = absurd (none h)
+sine-at-uneven zero t h e = absurd (e refl)
+sine-at-uneven (suc zero) t h e = refl
+sine-at-uneven (suc (suc zero)) t h e = absurd (e refl)
+sine-at-uneven (suc (suc (suc zero))) t h e = refl
+sine-at-uneven (suc (suc (suc (suc q)))) t h e = absurd (none h)
   where
     none : suc (suc (suc (suc q))) ≤ 3 → ⊥
     none h = omega arith
+
+pub cosine-at-even : (q t : ℕ) → q ≤ 3 → q % 2 ≡ 0 → let c = F (pos (cosineUnits t)) in cosineAt q t ≡ cond (eqb q 1 || eqb q 2) (neg c) c
+unfolding cosineAt
+cosine-at-even zero t h e = refl
+cosine-at-even (suc zero) t h e = absurd (none e)
+  where
+    none : 1 % 2 ≡ 0 → ⊥
+    none e = omega arith
+cosine-at-even (suc (suc zero)) t h e = refl
+cosine-at-even (suc (suc (suc q))) t h e = absurd (none q h e)
+  where
+    none : (q : ℕ) → suc (suc (suc q)) ≤ 3 → suc (suc (suc q)) % 2 ≡ 0 → ⊥
+    none q h e = omega arith
+
+pub cosine-at-uneven : (q t : ℕ) → q ≤ 3 → (q % 2 ≡ 0 → ⊥) → let s = F (pos (sineUnits t)) in cosineAt q t ≡ cond (eqb q 1 || eqb q 2) (neg s) s
+unfolding cosineAt
+cosine-at-uneven zero t h e = absurd (e refl)
+cosine-at-uneven (suc zero) t h e = refl
+cosine-at-uneven (suc (suc zero)) t h e = absurd (e refl)
+cosine-at-uneven (suc (suc (suc zero))) t h e = refl
+cosine-at-uneven (suc (suc (suc (suc q)))) t h e = absurd (none h)
+  where
+    none : suc (suc (suc (suc q))) ≤ 3 → ⊥
+    none h = omega arith
+
+-- a size is a number, and takes a sign as one
+pub size-number : (y : Float) (w : ℕ) → y ≡ F (pos w) → T (not (isNan y))
+size-number y w e = subst (λ (b : Bool). T (not b)) (sym (ap isNan e ∙ unsigned-number (F (pos w)) (F-unsigned w))) tt
+
+pub size-signed : (y : Float) (w : ℕ) (b : Bool) → y ≡ F (pos w) → withSign y b ≡ cond b (neg (F (pos w))) (F (pos w))
+size-signed y w b e = let v : mag y ≡ F (pos w) = ap mag e ∙ unsigned-mag (F (pos w)) (F-unsigned w) in (λ i. cond b (neg (v i)) (v i))
 
 -- ---- the bounds: where there is a value, it lies in -1..1
 abbrev one : Float
