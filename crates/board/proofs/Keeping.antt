@@ -8,6 +8,7 @@ use native.Mathlib.Nat.{eq-or-lt-of-le}
 use native.Mathlib.Omega.{arith}
 use lib.ListN.{length, getD, take, drop, getD-replicate, length-map, List·getD-map}
 use lib.Dec.{T, eqb, lit<}
+use lib.Seq.{getD-take, getD-drop}
 use lib.Ieee.{nan, binary32, ofBits, toBits, neg, fits}
 use lib.Ieee.Bits.{ofBits-toBits, ofBits-fits}
 use lib.Ieee.Fits.{neg-fits}
@@ -17,13 +18,13 @@ use Rattle.floats.proofs.Tests.{finite-at}
 use Rattle.board.specs.Stations.{Station, numberAt, nobody, outdoes, shown, numbersShown, idsShown, upTo}
 use Rattle.board.specs.Runs.{without}
 use Rattle.board.specs.Words.{U32s, airSize, keptOf, rowIn, stationAt, stationsTo, stationsOk}
-use Rattle.board.specs.Steps.{entry, entryOf, entryAt, entryIn, betterOf, keptBy, raised, renewed}
+use Rattle.board.specs.Steps.{entry, entryOf, entryAt, entryIn, betterOf, keptBy, raised, raisedVacated, renewed}
 use Rattle.board.specs.declared.kept.Entry.{Entry}
 use Rattle.board.proofs.Each.{Each, more, each-at}
 use Rattle.board.proofs.Ranks.{Fit, best-shown, shown-best, shown-none, shown-more}
 use Rattle.board.proofs.Bits.{bits-back}
 use Rattle.board.proofs.Reading.{in-list, row-length, number-read, stations-length}
-use Rattle.board.proofs.Writing.{upTo-same, kept-by, kept-entry, by-same}
+use Rattle.board.proofs.Writing.{upTo-same, kept-by, kept-entry, by-entry, by-same}
 use Rattle.board.proofs.Good.{own}
 use Rattle.board.proofs.Boards.{Row, OnAir, bits-read, rows-read}
 use Rattle.board.proofs.Present.{each-without, ok-without, each-fit}
@@ -177,3 +178,26 @@ module _ (air : List ℕ) (u : U32s air) (size : length air ≡ airSize) (n : �
       let ended = ap finite (sym read) ∙ finite-at (rowIn air at) v (o .1 .numbers) (omega (arith, row-length air at room)) in
       let bits : getD air (at + v) 0 ≡ toBits binary32 (numberAt v s) = sym (ap (toBits binary32) read ∙ bits-back (getD air (at + v) 0) (u (at + v)) ended) in
       ap (λ (b : ℕ). betterOf (entry b (s .id)) (entryOf v (shown v ss))) bits ∙ one-better v low s ss (each-fit v low (on .rows) (on .ok)) (on .ok)
+
+  -- a place more, where the one gone was shown
+  pub renewed-place : (gone : ℕ) (kept : List ℕ) (k : ℕ) → k < n
+      → keptBy (raisedVacated gone kept (getD air (1 + 361 * k) 0) (take 360 (drop (2 + 361 * k) air)) (keptBy (renewed gone (stationsTo air k) kept)))
+      ≡ keptBy (renewed gone (stationsTo air (suc k)) kept)
+  renewed-place gone kept k h = by-same turn
+    where
+      turn : (v : ℕ) → v < 360
+          → raisedVacated gone kept (getD air (1 + 361 * k) 0) (take 360 (drop (2 + 361 * k) air)) (keptBy (renewed gone (stationsTo air k) kept)) v
+          ≡ renewed gone (stationsTo air (suc k)) kept v
+      turn v low =
+          let at = 2 + 361 * k in
+          let id = getD air (1 + 361 * k) 0 in
+          let bits = getD-take 360 (drop at air) v 0 low ∙ getD-drop at air v 0 in
+          ap (λ (e : Entry). cond (eqb (getD kept (360 + v) 0) gone) (betterOf (entry (getD (take 360 (drop at air)) v 0) id) e) e) (by-entry (renewed gone (stationsTo air k) kept) v low)
+          ∙ ap (λ (b : ℕ). cond (eqb (getD kept (360 + v) 0) gone) (betterOf (entry b id) (renewed gone (stationsTo air k) kept v)) (renewed gone (stationsTo air k) kept v)) bits
+          ∙ go (eqb (getD kept (360 + v) 0) gone)
+        where
+          go : (t : Bool)
+              → let old = cond t (entryOf v (shown v (stationsTo air k))) (entryIn kept v) in
+              cond t (betterOf (entryAt air k v) old) old ≡ cond t (entryOf v (shown v (stationsTo air (suc k)))) (entryIn kept v)
+          go true = shown-place v low k h
+          go false = refl

@@ -160,15 +160,18 @@ pub kept-by : (ss : List Station) → keptOf ss ≡ keptBy (λ (v : ℕ). entryO
 unfolding keptOf keptBy numbersShown idsShown
 kept-by ss = ap (λ (l : List ℕ). l ++ upTo (λ (v : ℕ). shown v ss .id) 360) (upTo-map (toBits binary32) (λ (v : ℕ). numberAt v (shown v ss)) 360)
 
-pub kept-length : (ss : List Station) → length (keptOf ss) ≡ 720
+pub by-length : (f : ℕ → Entry) → length (keptBy f) ≡ 720
 unfolding keptBy
-kept-length ss =
-    let bits : ℕ → ℕ = λ (v : ℕ). entryOf v (shown v ss) .bits in
-    let id : ℕ → ℕ = λ (v : ℕ). shown v ss .id in
-    ap length (kept-by ss) ∙ length-append (upTo bits 360) (upTo id 360) ∙ omega (arith, upTo-length bits 360, upTo-length id 360)
+by-length f =
+    let bits : ℕ → ℕ = λ (v : ℕ). f v .bits in
+    let id : ℕ → ℕ = λ (v : ℕ). f v .id in
+    length-append (upTo bits 360) (upTo id 360) ∙ omega (arith, upTo-length bits 360, upTo-length id 360)
+
+pub kept-length : (ss : List Station) → length (keptOf ss) ≡ 720
+kept-length ss = ap length (kept-by ss) ∙ by-length (λ (v : ℕ). entryOf v (shown v ss))
 
 -- what is kept at an azimuth
-by-entry : (f : ℕ → Entry) (v : ℕ) → v < 360 → entryIn (keptBy f) v ≡ f v
+pub by-entry : (f : ℕ → Entry) (v : ℕ) → v < 360 → entryIn (keptBy f) v ≡ f v
 unfolding keptBy
 by-entry f v h =
     let bits : ℕ → ℕ = λ (u : ℕ). f u .bits in

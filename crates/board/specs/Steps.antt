@@ -48,3 +48,7 @@ raised id bits kept v = betterOf (entry (getD bits v 0) id) (entryIn kept v)
 -- what is kept at azimuth v with one gone and these left: worked out anew only where the one gone was shown
 abbrev pub renewed : ℕ → List Station → List ℕ → ℕ → Entry
 renewed gone ss kept v = cond (eqb (getD kept (360 + v) 0) gone) (entryOf v (shown v ss)) (entryIn kept v)
+
+-- what is left at azimuth v with one more, who has this id and these bits, while those that showed the one gone are worked out anew
+abbrev pub raisedVacated : ℕ → List ℕ → ℕ → List ℕ → List ℕ → ℕ → Entry
+raisedVacated gone kept id bits left v = cond (eqb (getD kept (360 + v) 0) gone) (raised id bits left v) (entryIn left v)

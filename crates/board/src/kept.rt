@@ -7,9 +7,9 @@ ghost use mathlib.Core.List.{[], _++_};
 ghost use Prim.Native.Nat.{_+_, _*_, _≤_, _<_};
 ghost use lib.ListN.{length, getD, set};
 ghost use lib.Ieee.{binary32, ofBits};
-ghost use Rattle.board.specs.Stations.{shown, upTo};
+ghost use Rattle.board.specs.Stations.{upTo};
 ghost use Rattle.board.specs.Words.{airSize, boardSize, airIn, keptIn, keptOf, stationsTo, stationsOn, stationsOk, airOk, sameWords};
-ghost use Rattle.board.specs.Steps.{entry, entryOf, entryAt, entryIn, betterOf, keptBy, raised, renewed};
+ghost use Rattle.board.specs.Steps.{entry, entryIn, betterOf, keptBy, raised, raisedVacated, renewed};
 
 // The bits of a number, and the id that has it; id 0 is nobody.
 pub(crate) struct Entry {
@@ -24,18 +24,6 @@ fn nobody() -> Entry
     Entry {
         bits: 0xC1F0_0000,
         id: 0,
-    }
-}
-
-// What the station in place k has at azimuth v.
-fn entry_at(air: &[u32], k: usize, v: usize) -> Entry
-    requires { ⌜ (length (now air) ≡ airSize) × (k < 16) × (v < 360) ⌝ }
-    ensures { λ r. ⌜ r ≡ entryAt (now (air .entry)) k v ⌝ }
-{
-    let at = 361 * k;
-    Entry {
-        bits: air[2 + at + v],
-        id: air[1 + at],
     }
 }
 
@@ -141,31 +129,75 @@ pub(crate) fn kept_ok(air: &[u32], kept: &[u32]) -> bool
     same_words(kept, &fresh)
 }
 
-// What the first n places show at azimuth v.
-fn strongest_at(air: &[u32], n: usize, v: usize) -> Entry
-    requires { ⌜ (length (now air) ≡ airSize) × (n ≤ 16) × (stationsOk (stationsTo (now air) n) ≡ true) × (v < 360) ⌝ }
-    ensures { λ r. ⌜ r ≡ entryOf v (shown v (stationsTo (now (air .entry)) n)) ⌝ }
+// What is kept, with nobody where the one gone was shown.
+fn vacated(kept: &[u32], gone: u32) -> [u32; 720]
+    requires { ⌜ length (now kept) ≡ 720 ⌝ }
+    ensures { λ r. ⌜ r ≡ keptBy (renewed gone [] (now (kept .entry))) ⌝ }
 {
-    let mut best = nobody();
-    let mut k: usize = 0;
-    while k < n {
-        best = better(entry_at(air, k, v), best);
-        k += 1;
+    let mut left = [0u32; 720];
+    let mut v: usize = 0;
+    while v < 360 {
+        let was = entry_in(kept, v);
+        let rest = if was.id == gone { nobody() } else { was };
+        put_entry(&mut left, v, rest);
+        v += 1;
     }
-    best
+    left
 }
 
-// What azimuth v keeps after one is gone: worked out anew only where it was shown.
-fn renewed_at(board: &[u32], n: usize, gone: u32, v: usize) -> Entry
-    requires { ⌜ (length (now board) ≡ boardSize) × (n ≤ 16) × (stationsOk (stationsTo (airIn (now board)) n) ≡ true) × (v < 360) ⌝ }
-    ensures { λ r. ⌜ r ≡ renewed gone (stationsTo (airIn (now (board .entry))) n) (keptIn (now (board .entry))) v ⌝ }
+// One more, as in `raise`, but only where the one gone was shown among those kept.
+fn raise_vacated(left: &mut [u32], kept: &[u32], gone: u32, id: u32, bits: &[u32])
+    requires { ⌜ (length (now left) ≡ 720) × (length (now kept) ≡ 720) × (length (now bits) ≡ 360) ⌝ }
+    ensures { λ _. ⌜ now (left .exit) ≡ keptBy (raisedVacated gone (now (kept .entry)) id (now (bits .entry)) (now (left .entry))) ⌝ }
 {
-    let old = entry_in(&board[AIR..], v);
-    if old.id == gone {
-        strongest_at(&board[..AIR], n, v)
-    } else {
-        old
+    let mut v: usize = 0;
+    while v < 360 {
+        let new = Entry {
+            bits: bits[v],
+            id: id,
+        };
+        let old = entry_in(left, v);
+        let best = better(new, old);
+        let rest = if kept[360 + v] == gone { best } else { old };
+        put_entry(left, v, rest);
+        v += 1;
     }
+}
+
+// What is kept after one is gone, with the first n places left: a place at a time, as its words
+// are neighbours.
+fn anew(air: &[u32], n: usize, kept: &[u32], gone: u32) -> [u32; 720]
+    requires { ⌜ (length (now air) ≡ airSize) × (n ≤ 16) × (stationsOk (stationsTo (now air) n) ≡ true) × (length (now kept) ≡ 720) ⌝ }
+    ensures { λ r. ⌜ r ≡ keptBy (renewed gone (stationsTo (now (air .entry)) n) (now (kept .entry))) ⌝ }
+{
+    let mut left = vacated(kept, gone);
+    let mut k: usize = 0;
+    while k < n {
+        let from = 2 + 361 * k;
+        let end = 360 + from;
+        raise_vacated(&mut left, kept, gone, air[1 + 361 * k], &air[from..end]);
+        k += 1;
+    }
+    left
+}
+
+fn put_words(to: &mut [u32], from: &[u32])
+    requires { ⌜ length (now to) ≡ length (now from) ⌝ }
+    ensures { λ _. ⌜ now (to .exit) ≡ now (from .entry) ⌝ }
+{
+    let mut i: usize = 0;
+    while i < from.len() {
+        to[i] = from[i];
+        i += 1;
+    }
+}
+
+// The same of a board.
+fn kept_without(board: &[u32], n: usize, gone: u32) -> [u32; 720]
+    requires { ⌜ (length (now board) ≡ boardSize) × (n ≤ 16) × (stationsOk (stationsTo (airIn (now board)) n) ≡ true) ⌝ }
+    ensures { λ r. ⌜ r ≡ keptBy (renewed gone (stationsTo (airIn (now (board .entry))) n) (keptIn (now (board .entry)))) ⌝ }
+{
+    anew(&board[..AIR], n, &board[AIR..], gone)
 }
 
 // One gone, with n left.
@@ -173,12 +205,8 @@ pub(crate) fn renew(board: &mut [u32], n: usize, gone: u32)
     requires { ⌜ (length (now board) ≡ boardSize) × (n ≤ 16) × (stationsOk (stationsTo (airIn (now board)) n) ≡ true) ⌝ }
     ensures { λ _. ⌜ now (board .exit) ≡ airIn (now (board .entry)) ++ keptBy (renewed gone (stationsTo (airIn (now (board .entry))) n) (keptIn (now (board .entry)))) ⌝ }
 {
-    let mut v: usize = 0;
-    while v < 360 {
-        let best = renewed_at(board, n, gone, v);
-        put_entry(&mut board[AIR..], v, best);
-        v += 1;
-    }
+    let left = kept_without(board, n, gone);
+    put_words(&mut board[AIR..], &left);
 }
 
 // What is kept, over the lent numbers and ids.
