@@ -28,7 +28,7 @@ extern "C" {
 
 /* Why a call refuses; the README says more of each. The lowest number that holds is told, unless a call says otherwise. */
 enum hf_refusal {
-  HF_REFUSAL_RECORD = 1,    /* a station record: its length, edition or spare bits */
+  HF_REFUSAL_RECORD = 1,    /* a station record: its length, edition, spare bits or type */
   HF_REFUSAL_VALUE = 2,     /* a float that isn't finite */
   HF_REFUSAL_TYPE = 3,      /* a type that isn't 1 to 9 */
   HF_REFUSAL_MODE = 4,      /* a mode of the maximum gain that there isn't */
@@ -144,12 +144,16 @@ uint64_t hf_why(const float *parm, size_t parm_len);
 /* The same of a curtain's limits (2, 5, 7). */
 uint64_t hf_curtain_why(const float *parm, size_t parm_len);
 
-/* A station record of HF_RECORD bytes into HF_STATION words: the mode, then the bits of parm (20), gainmax (6) and gainmaxb (30).
- * Returns 0 or the refusal (1, 2; 8 first where words isn't HF_STATION). */
+/* A station record of HF_RECORD bytes, of edition 0 or 1, into HF_STATION words: the mode, then the bits of parm (20), gainmax (6) and
+ * gainmaxb (30). The edition is the first byte's upper two bits, and edition 1's first byte is 64 + 16 * mode + type, where a curtain
+ * (mode 3) has type 10. Returns 0 or the refusal (1, 2; 8 first where words isn't HF_STATION): 1 also for a type that isn't slot 1
+ * rounded. */
 uint32_t hf_read(const uint8_t *record, size_t record_len, uint32_t *words, size_t words_len);
 
-/* The same words into a record of HF_RECORD bytes. Returns 0 or the refusal (2, 4, 8). */
-uint32_t hf_write(const uint32_t *words, size_t words_len, uint8_t *record, size_t record_len);
+/* The same words into a record of HF_RECORD bytes, in edition 0 or 1. Returns 0 or the refusal (1 for another edition, 2, 3, 4, 8; 8
+ * first where words isn't HF_STATION). 3: edition 1 has a type in it, so in modes 0 to 2 slot 1 must round to 1 to 9; edition 0 holds
+ * any station. */
+uint32_t hf_write(uint32_t edition, const uint32_t *words, size_t words_len, uint8_t *record, size_t record_len);
 
 /* The program `plate`: from its whole input (HF_PLATE_INPUT bytes) to its whole text. Returns the text's length; 0 with nothing
  * written where text is under HF_PLATE_TEXT bytes. A refusal is a text: "refused 6\n". */

@@ -10,11 +10,24 @@ pub fn turn_a_bit(random: &mut Random, record: &mut [u8]) {
     record[random.pick(&[0, last, any])] ^= 1 << random.below(8);
 }
 
-/// Sets the exponent of one of the 56 words, half a byte past its four bytes' start, to that of an infinity or NaN.
+/// Sets the exponent of one of the 56 words, often slot 1's, to that of an infinity or NaN. Edition 0's words stand half a byte past
+/// their four bytes' start, edition 1's a byte.
 pub fn break_a_word(random: &mut Random, record: &mut [u8]) {
-    let start = 4 * random.below(56) as usize;
-    record[start] |= 0x07;
-    record[start + 1] |= 0xf8;
+    let any = random.below(56) as usize;
+    let start = 4 * random.pick(&[1, any]);
+    if record[0] >> 6 == 0 {
+        record[start] |= 0x07;
+        record[start + 1] |= 0xf8;
+    } else {
+        record[start + 1] |= 0x7f;
+        record[start + 2] |= 0x80;
+    }
+}
+
+/// Another edition, 0 to 3, or another type in edition 1's place.
+pub fn change_the_header(random: &mut Random, record: &mut [u8]) {
+    let any = random.below(16) as u8;
+    record[0] = if random.below(2) == 0 { record[0] & 0x3f | any << 6 } else { record[0] & 0xf0 | any };
 }
 
 /// A row's elevation: mostly whole and 0 to 90.
@@ -39,7 +52,7 @@ fn station(random: &mut Random) -> Vec<u8> {
     }
     let mut bytes = vec![0; BYTES];
     // Words that can't be written leave zeros, a record too.
-    let _ = record::write(&words, &mut bytes);
+    let _ = record::write(random.below(2) as u32, &words, &mut bytes);
     bytes
 }
 
@@ -54,12 +67,13 @@ fn plate(random: &mut Random) -> Vec<u8> {
     bytes
 }
 
-/// An input of the program; one in twenty is too long, too short or has a bit turned.
+/// An input of the program; three in forty are too long, too short, or have a bit or the header changed.
 pub fn input(random: &mut Random) -> Vec<u8> {
     let mut bytes = plate(random);
     match random.below(40) {
         0 => bytes.resize(random.pick(&[0, 1, 225, 236, 238, 4096]), 0),
         1 => turn_a_bit(random, &mut bytes[..BYTES]),
+        2 => change_the_header(random, &mut bytes),
         _ => {}
     }
     bytes

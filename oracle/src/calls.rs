@@ -93,7 +93,7 @@ pub const CALLS: &[Call] = calls! {
     maxgain(mode: Word, floats: Floats, out: LentWords)
     curtain(parm: Floats, azimuth: Float, elevation: Float, factor: Float)
     read(record: Bytes, words: LentWords)
-    write(words: Words, record: LentBytes)
+    write(edition: Word, words: Words, record: LentBytes)
     gains(parm: Floats, giso: Float, directions: Floats, out: LentWords)
     setup(parm: Floats, table: LentFloats, antenna: LentWords, out: LentWords)
     plate(input: Bytes, text: LentBytes)

@@ -133,18 +133,22 @@ impl Station {
         std::array::from_fn(|k| if k == 0 { self.mode } else { bits[k - 1] })
     }
 
-    /// The 237 bytes that the program reads.
+    /// The 237 bytes that the program reads, the record in edition 0.
     fn input(&self) -> Vec<u8> {
+        self.in_edition(0)
+    }
+
+    fn in_edition(&self, edition: u32) -> Vec<u8> {
         let mut bytes = vec![0; record::BYTES];
-        record::write(&self.words(), &mut bytes).expect("finite floats");
+        record::write(edition, &self.words(), &mut bytes).expect("finite floats, and a type for edition 1");
         bytes.extend([self.mhz, self.design, self.elevation].iter().flat_map(|x| x.to_bits().to_be_bytes()));
         bytes
     }
 }
 
-/// The stations of `examples/` by name; document 01's Case Q is an empty one.
-fn named() -> Vec<(&'static str, Vec<u8>)> {
-    let stations = [
+/// The stations of `examples/` by name.
+fn stations() -> [(&'static str, Station); 12] {
+    [
         ("case-p", CASE_P),
         ("type-1", TYPE_1),
         ("type-2", TYPE_2),
@@ -157,8 +161,18 @@ fn named() -> Vec<(&'static str, Vec<u8>)> {
         ("type-9", TYPE_9),
         ("relative", RELATIVE),
         ("refused", REFUSED),
-    ];
-    stations.iter().map(|(name, station)| (*name, station.input())).chain([("case-q", vec![])]).collect()
+    ]
+}
+
+/// Their inputs; document 01's Case Q is an empty one, and one is an antenna's record of edition 1.
+fn named() -> Vec<(&'static str, Vec<u8>)> {
+    let others = [("case-q", vec![]), ("edition-1", TYPE_1.in_edition(1))];
+    stations().iter().map(|(name, station)| (*name, station.input())).chain(others).collect()
+}
+
+/// The input of each station of `examples/` in editions 0 and 1.
+pub fn editions() -> Vec<(&'static str, [Vec<u8>; 2])> {
+    stations().iter().map(|(name, station)| (*name, [0, 1].map(|edition| station.in_edition(edition)))).collect()
 }
 
 /// An input for each refusal that the program can give, 1 to 7, 9 and 10: it lends itself the space that 8 is about.
@@ -188,11 +202,18 @@ fn lengths() -> Vec<Vec<u8>> {
     vec![vec![], long[..238].to_vec(), long]
 }
 
-/// The inputs of the crate `test_plate` in its order: an antenna of each type, floors, then the refusals and the lengths.
+/// Edition 1: an antenna, the same with another type in the field, and an edition that there isn't.
+fn edition_1() -> Vec<Vec<u8>> {
+    let antenna = TYPE_1.in_edition(1);
+    let other = |first: u8| [&[first], &antenna[1..]].concat();
+    vec![antenna.clone(), other(antenna[0] ^ 2), other(antenna[0] ^ 0xc0)]
+}
+
+/// The inputs of the crate `test_plate` in its order: an antenna of each type, floors, then the refusals, the lengths and edition 1.
 fn cases() -> Vec<Vec<u8>> {
     let is_antenna = |name: &str| name.starts_with("type-") || name == "relative";
     let antennas = named().into_iter().filter(|(name, _)| is_antenna(name)).map(|(_, input)| input);
-    antennas.chain(refusals()).chain(lengths()).collect()
+    antennas.chain(refusals()).chain(lengths()).chain(edition_1()).collect()
 }
 
 /// The stored inputs: their place below the repository's root, and their bytes. The cases are named by letters.

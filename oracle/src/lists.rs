@@ -30,8 +30,8 @@ fn inputs_of(call: &Call) -> (u64, Inputs) {
         "leaf" => (2100, leaf),
         "maxgain" => (140, maxgain),
         "curtain" => (480, curtain),
-        "read" => (70, read),
-        "write" => (70, write),
+        "read" => (140, read),
+        "write" => (140, write),
         "gains" => (240, gains),
         "setup" => (140, setup),
         "plate" => (100, plate),
@@ -148,10 +148,16 @@ fn curtain(random: &mut Random, k: u64) -> Vec<Value> {
 fn words(random: &mut Random) -> [u32; 58] {
     let mut words = [0; 58].map(|_: u32| stations::finite(random).to_bits());
     words[0] = if random.below(8) == 0 { random.pick(&[4, 5, 256, u32::MAX]) } else { random.below(4) as u32 };
+    words[2] = stations::type_slot(random).to_bits();
     if random.below(8) == 0 {
         words[1 + random.below(56) as usize] = random.pick(&[0x7f80_0000, 0xff80_0000, 0x7fc0_0000, 0x7f80_0001, 0xffff_ffff]);
     }
     words
+}
+
+/// An edition, at times one that there isn't.
+fn edition(random: &mut Random) -> u32 {
+    random.pick(&[0, 0, 0, 1, 1, 1, 1, 2, 3, u32::MAX])
 }
 
 /// The numbers of words and of bytes, one of them wrong in one of ten.
@@ -168,9 +174,12 @@ fn read(random: &mut Random, k: u64) -> Vec<Value> {
     let mut bytes = vec![0; BYTES];
     let written = words(random)[..WORDS].try_into().expect("57 words");
     // Words that can't be written leave zeros, a record too.
-    let _ = record::write(&written, &mut bytes);
+    let _ = record::write(random.below(2) as u32, &written, &mut bytes);
     if random.below(4) == 0 {
         broken::turn_a_bit(random, &mut bytes);
+    }
+    if random.below(6) == 0 {
+        broken::change_the_header(random, &mut bytes);
     }
     if random.below(8) == 0 {
         broken::break_a_word(random, &mut bytes);
@@ -181,7 +190,7 @@ fn read(random: &mut Random, k: u64) -> Vec<Value> {
 
 fn write(random: &mut Random, k: u64) -> Vec<Value> {
     let (n, lent) = lengths(random, k);
-    vec![Value::Words(words(random)[..n].to_vec()), lent_bytes(lent)]
+    vec![Value::Word(edition(random)), Value::Words(words(random)[..n].to_vec()), lent_bytes(lent)]
 }
 
 /// Degrees: whole, fractions, or odd.

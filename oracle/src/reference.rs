@@ -146,8 +146,8 @@ pub fn read(bytes: &[u8], words: &mut [u32]) -> u32 {
     code(try_read(bytes, words))
 }
 
-pub fn write(words: &[u32], bytes: &mut [u8]) -> u32 {
-    code(words.try_into().map_err(|_| SPACE).and_then(|words| record::write(words, bytes)))
+pub fn write(edition: u32, words: &[u32], bytes: &mut [u8]) -> u32 {
+    code(words.try_into().map_err(|_| SPACE).and_then(|words| record::write(edition, words, bytes)))
 }
 
 /// The program's output and its length; nothing where the room is under 8,192 bytes.

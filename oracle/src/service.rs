@@ -48,7 +48,7 @@ mod raw {
             row_len: usize,
         ) -> u64;
         pub fn hf_read(record: *const u8, record_len: usize, words: *mut u32, words_len: usize) -> u32;
-        pub fn hf_write(words: *const u32, words_len: usize, record: *mut u8, record_len: usize) -> u32;
+        pub fn hf_write(edition: u32, words: *const u32, words_len: usize, record: *mut u8, record_len: usize) -> u32;
         pub fn hf_book(rows: *const u32, rows_len: usize) -> u64;
         pub fn hf_station_for(rows: *const u32, rows_len: usize, khz: u32) -> u64;
         pub fn hf_season(year: u32, month: u32, day: u32, minute: u32) -> u64;
@@ -139,9 +139,9 @@ pub fn read(record: &[u8], words: &mut [u32]) -> u32 {
     unsafe { raw::hf_read(record.as_ptr(), record.len(), words.as_mut_ptr(), words.len()) }
 }
 
-pub fn write(words: &[u32], record: &mut [u8]) -> u32 {
+pub fn write(edition: u32, words: &[u32], record: &mut [u8]) -> u32 {
     // SAFETY: as above.
-    unsafe { raw::hf_write(words.as_ptr(), words.len(), record.as_mut_ptr(), record.len()) }
+    unsafe { raw::hf_write(edition, words.as_ptr(), words.len(), record.as_mut_ptr(), record.len()) }
 }
 
 pub fn book(rows: &[u32]) -> u64 {

@@ -16,6 +16,16 @@ pub fn finite(random: &mut Random) -> f32 {
     f32::from_bits(if bits >> 23 & 255 == 255 { bits & 0x807f_ffff } else { bits })
 }
 
+/// A slot 1: mostly of a type, or of a number beside the types; at times any float.
+pub fn type_slot(random: &mut Random) -> f32 {
+    match random.below(10) {
+        0 => finite(random),
+        1 => random.pick(&[0.5, 0.499_999_97, 0.499_999_94, 9.5, 9.499_999, -0.5, -1.0, 10.0, 15.0, 16.0, 2_147_483_648.0]),
+        2 => random.between(-2.0, 17.0),
+        _ => random.between(0.5, 9.499_999),
+    }
+}
+
 /// An end of a limit or a float beside it, of either sign.
 pub fn near_end(random: &mut Random) -> f32 {
     let end = random.pick(&ENDS).to_bits();

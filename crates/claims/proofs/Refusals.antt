@@ -1,6 +1,6 @@
 -- Each call refuses by its table.
-use Prim.Native.Nat.{ℕ}
-use mathlib.Core.Path.{_≡_, refl, sym, subst}
+use Prim.Native.Nat.{ℕ, suc}
+use mathlib.Core.Path.{_≡_, refl, sym, ap, subst}
 use mathlib.Core.Bool.{Bool, true, false, cond, not, _||_}
 use mathlib.Core.List.{List, [], _∷_}
 use native.Mathlib.Omega.{arith}
@@ -8,6 +8,7 @@ use lib.ListN.{length, take}
 use lib.Dec.{ltb}
 use lib.Ieee.{Float}
 use lib.Ieee.Scale.{finite}
+use borrow.Author.Tests.{lt-ltb}
 use Rattle.answers.specs.Outcome.{Outcome, refused, accepted}
 use Rattle.answers.specs.Refusals.{PATTERN, LEVEL}
 use Rattle.answers.specs.Table.{Line, Refuses, firstOf, answeredBy, rising}
@@ -67,32 +68,29 @@ curtain-gain parm azimd elevd gnorm =
     let x = levelOf parm azimd elevd gnorm in
     refuses _ (take 3 (curtainTable parm azimd elevd gnorm)) LEVEL (not (finite x)) x refl refl (omega arith) (rw (either, turned (finite x) (accepted x) (refused LEVEL)))
 
--- reader and writer
-module _ {A : Type 0} (x left : A) where
-  two-tries : (p q : Bool) → outcomeOf (cond p (station.refused 1 left) (cond q (station.refused 2 left) (station.accepted x))) ≡ answeredBy ((1, p) ∷ (2, q) ∷ []) x
-  unfolding outcomeOf answeredBy firstOf
-  two-tries true q = refl
-  two-tries false true = refl
-  two-tries false false = refl
+-- reader and writer: no test left, and one more before those that are
+no-more : {A : Type 0} (x : A) → outcomeOf (station.accepted x) ≡ answeredBy [] x
+unfolding outcomeOf answeredBy firstOf
+no-more x = refl
 
-  three-tries : (p q r : Bool)
-      → outcomeOf (cond p (station.refused 2 left) (cond q (station.refused 4 left) (cond r (station.refused 8 left) (station.accepted x)))) ≡ answeredBy ((2, p) ∷ (4, q) ∷ (8, r) ∷ []) x
-  unfolding outcomeOf answeredBy firstOf
-  three-tries true q r = refl
-  three-tries false true r = refl
-  three-tries false false true = refl
-  three-tries false false false = refl
+one-more : {A : Type 0} (x left : A) (number : ℕ) (p : Bool) (rest : station.Answer A) (lines : List Line) → outcomeOf rest ≡ answeredBy lines x
+    → outcomeOf (cond p (station.refused (suc number) left) rest) ≡ answeredBy ((suc number, p) ∷ lines) x
+unfolding outcomeOf answeredBy firstOf
+one-more {A} x left number true rest lines e = sym (ap (λ (b : Bool). cond {A = Outcome A} b (refused (suc number)) (accepted x)) (lt-ltb 0 (suc number) (omega arith)))
+one-more {A} x left number false rest lines e = e
 
 answered : {A : Type 0} {o : Outcome A} (t : List Line) (x : A) → rising 0 t ≡ true → o ≡ answeredBy t x → Refuses o t
 answered {A} t x r e = subst (λ (y : Outcome A). Refuses y t) (sym e) (by-table t r x)
 
 reader : (bytes : List ℕ) → Refuses (outcomeOf (station.readOf bytes)) (readTable bytes)
 unfolding station.readOf station.floatsAnswer readTable rising
-reader bytes = answered (readTable bytes) _ refl (two-tries _ _ _ _)
+reader bytes = answered (readTable bytes) _ refl (one-more _ _ 0 _ _ _ (one-more _ _ 1 _ _ _ (no-more _)))
 
-writer : (s : Station) (out : List ℕ) → Refuses (outcomeOf (station.writeOf s out)) (writeTable s out)
+writer : (edition : ℕ) (s : Station) (out : List ℕ) → Refuses (outcomeOf (station.writeOf edition s out)) (writeTable edition s out)
 unfolding station.writeOf writeTable rising
-writer s out = answered (writeTable s out) _ refl (three-tries _ _ _ _ _)
+writer edition s out =
+    answered (writeTable edition s out) _ refl
+    (one-more _ _ 0 _ _ _ (one-more _ _ 1 _ _ _ (one-more _ _ 2 _ _ _ (one-more _ _ 3 _ _ _ (one-more _ _ 7 _ _ _ (no-more _))))))
 
 pub refusals : Refusals
 refusals = record { setmaxgain = setmaxgain; antinit2 = antinit2; ccirgain = ccirgain; row = row; curtain = curtain-gain; reader = reader; writer = writer }

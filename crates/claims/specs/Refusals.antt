@@ -23,4 +23,4 @@ pub record Refusals : Type 0 where
   pub curtain : (parm : List Float) (azimd elevd gnorm : Float)
       → Refuses (curtainGain parm azimd elevd gnorm) (curtainTable parm azimd elevd gnorm)
   pub reader : (bytes : List ℕ) → Refuses (outcomeOf (readOf bytes)) (readTable bytes)
-  pub writer : (s : Station) (out : List ℕ) → Refuses (outcomeOf (writeOf s out)) (writeTable s out)
+  pub writer : (edition : ℕ) (s : Station) (out : List ℕ) → Refuses (outcomeOf (writeOf edition s out)) (writeTable edition s out)

@@ -21,7 +21,8 @@ use Rattle.maxgain.specs.Maximum.{found}
 use Rattle.curtain.specs.Answers as curtain
 use Rattle.curtain.specs.Level.{levelOf}
 use Rattle.station.specs.Answers as station
-use Rattle.station.specs.Record.{isRecord, floatsIn, floatsOf}
+use Rattle.station.specs.Header.{widthOf, typeless}
+use Rattle.station.specs.Record.{editionIn, isRecord, floatsIn, floatsOf}
 use Rattle.station.specs.declared.Station.{Station}
 use Rattle.antenna.specs.Limits.{bandOk, slotsOk, aimOk, startOf}
 use Rattle.antenna.specs.Search.{gainormOf}
@@ -92,13 +93,19 @@ curtainTable parm azimd elevd gnorm =
     ∷ (LEVEL when not (finite (levelOf parm azimd elevd gnorm)))
     ∷ []
 
--- the record's reader and writer
+-- the record's reader, and its writer by document 02's card 7
 unfoldable pub readTable : List ℕ → List Line
-readTable bytes = (RECORD when not (isRecord bytes)) ∷ (VALUE when not (allFinite (floatsIn 4 bytes))) ∷ []
+readTable bytes =
+    (RECORD when not (isRecord bytes)) ∷ (VALUE when not (allFinite (floatsIn (widthOf (editionIn bytes)) bytes))) ∷ []
 
-unfoldable pub writeTable : Station → List ℕ → List Line
-writeTable s out =
-    (VALUE when not (allFinite (floatsOf s))) ∷ (MODE when not (leb (s .mode) 3)) ∷ (SPACE when not (eqb (length out) 225)) ∷ []
+unfoldable pub writeTable : ℕ → Station → List ℕ → List Line
+writeTable edition s out =
+    (RECORD when not (leb edition 1))
+    ∷ (VALUE when not (allFinite (floatsOf s)))
+    ∷ (TYPE when typeless edition (s .mode) (slot (s .parm) 1))
+    ∷ (MODE when not (leb (s .mode) 3))
+    ∷ (SPACE when not (eqb (length out) 225))
+    ∷ []
 
 -- the outcome of reader and writer, without what a refusal leaves
 unfoldable pub outcomeOf : {A : Type 0} → station.Answer A → Outcome A

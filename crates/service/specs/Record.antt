@@ -39,5 +39,5 @@ writeLeft (accepted bytes) = left 0 bytes
 writeLeft (refused n bytes) = left n bytes
 
 -- 8 for words of another number
-unfoldable pub writeCall : List ℕ → List ℕ → Left
-writeCall words bytes = cond (not (eqb (length words) 57)) (left 8 bytes) (writeLeft (writeOf (stationIn words) bytes))
+unfoldable pub writeCall : ℕ → List ℕ → List ℕ → Left
+writeCall edition words bytes = cond (not (eqb (length words) 57)) (left 8 bytes) (writeLeft (writeOf edition (stationIn words) bytes))

@@ -70,13 +70,14 @@ fn code_of(v: Verdict) -> u32
     }
 }
 
-// Writes the record of 57 words: 0; or the refusal, and 8 first for words of another number.
+// Writes the record of 57 words in an edition: 0; or the refusal, and 8 first for words of another
+// number.
 #[no_mangle]
-pub extern "C" fn hf_write(words: &[u32], bytes: &mut [u8]) -> u32
-    ensures { λ r. ⌜ left r (now (bytes .exit)) ≡ writeCall (now (words .entry)) (now (bytes .entry)) ⌝ }
+pub extern "C" fn hf_write(edition: u32, words: &[u32], bytes: &mut [u8]) -> u32
+    ensures { λ r. ⌜ left r (now (bytes .exit)) ≡ writeCall edition (now (words .entry)) (now (bytes .entry)) ⌝ }
 {
     if words.len() != 57 {
         return 8;
     }
-    code_of(station::write(station_in(words), bytes))
+    code_of(station::write(edition, station_in(words), bytes))
 }

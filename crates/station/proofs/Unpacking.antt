@@ -1,19 +1,15 @@
 -- The words of a record's bytes, over the header's width h: word k lies in the five bytes from byte 4 * k on. Assumes nothing.
-use mathlib.Core.Path.{_≡_, refl, sym, ap, _∙_, subst}
+use mathlib.Core.Path.{_≡_, refl, sym, ap, _∙_}
 use Prim.Native.Nat.{ℕ, zero, suc, _+_, _-_, _*_, _/_, _%_, _^_, _≤_, _<_}
 use native.Mathlib.Nat.{add-zero, zero-add, mul-suc, add-comm, mul-comm, mul-assoc, add-mul-div-right, add-mul-mod-self-right, div-div-eq-div-mul, pow-succ', add-sub-of-le}
 use native.Mathlib.Omega.{arith}
 use mathlib.Core.List.{List, [], _∷_}
 use lib.ListN.{length, take, drop, getD, length-drop, take-append-drop, length-map, List·getD-map}
 use lib.Seq.{take-add, take-suc, take-all}
-use borrow.Author.Tests.{eq-eqb}
-use mathlib.Core.Bool.{true, _&&_}
-use lib.Ieee.Fits.{and-l}
-use lib.Dec.{T, eqb, eqb→eq, lit≤}
 use lib.Ieee.{nan, binary32, ofBits}
 use lib.Pow.{pow-add, pow-pos}
 use Rattle.words.specs.Digits.{after, number, digits, Below}
-use Rattle.station.specs.Record.{wordsIn, wordIn, headerIn, spareIn, isRecord, floatsIn}
+use Rattle.station.specs.Record.{wordsIn, wordIn, headerIn, spareIn, floatsIn}
 use Rattle.words.proofs.Elements.{take-elements}
 use Rattle.words.proofs.Digits.{below-drop, after-append, after-div, digit-at, length-digits}
 
@@ -94,11 +90,6 @@ module _ (h : ℕ) (l : h ≤ 8) (b : List ℕ) (bytes : Below 256 b) (len : len
       ∙ ap (λ (xs : List ℕ). after 256 n xs / u % 2 ^ 32) (five b (4 * k) (omega arith))
       ∙ word-alone h n (getD b (4 * k) 0) (getD b (4 * k + 1) 0) (getD b (4 * k + 2) 0) (getD b (4 * k + 3) 0) (getD b (4 * k + 4) 0) l
 
--- edition 0's header is four bits
-pub is-record : (b : List ℕ) → Below 256 b → length b ≡ 225 → isRecord b ≡ (eqb (getD b 0 0 / 16 / 4) 0 && eqb (getD b 224 0 % 16) 0)
-unfolding isRecord
-is-record b bytes len = rw (eq-eqb (length b) 225 len, header-at 4 (lit≤ tt) b bytes len, spare-at 4 (lit≤ tt) b bytes len)
-
 pub floats-in-length : (h : ℕ) (b : List ℕ) → length (floatsIn h b) ≡ 56
 unfolding floatsIn wordsIn
 floats-in-length h b = length-map (wordsIn h b) (ofBits binary32) ∙ length-digits (2 ^ 32) 56 (number 256 b / 2 ^ (8 - h))
@@ -113,7 +104,3 @@ pub float-in : (h : ℕ) (b : List ℕ) (k : ℕ) → k < 56 → getD (floatsIn 
 unfolding floatsIn
 float-in h b k l =
     getD-any (floatsIn h b) k nan (ofBits binary32 0) (omega (arith, floats-in-length h b)) ∙ List·getD-map (ofBits binary32) (wordsIn h b) k 0
-
-pub record-length : (b : List ℕ) → isRecord b ≡ true → length b ≡ 225
-unfolding isRecord
-record-length b e = eqb→eq (length b) 225 (and-l (eqb (length b) 225) (eqb (headerIn 4 b / 4) 0 && eqb (spareIn 4 b) 0) (subst T (sym e) tt))

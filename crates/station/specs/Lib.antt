@@ -1,3 +1,4 @@
 -- The definitions that contracts cite: one file for each subject.
+pub mod Header
 pub mod Record
 pub mod Answers

@@ -4,10 +4,12 @@ use Prim.Native.Nat.{ℕ, _-_, _*_, _/_, _%_, _^_}
 use mathlib.Core.Bool.{Bool, _&&_}
 use mathlib.Core.List.{List, _++_, map}
 use lib.ListN.{length, take, drop, replicate}
-use lib.Dec.{eqb}
+use lib.Dec.{eqb, leb}
 use lib.Ieee.{Float, binary32, ofBits, toBits}
 use Rattle.words.specs.Digits.{after, number, digits}
+use Rattle.model.specs.Limits.{slot}
 use Rattle.station.specs.declared.Station.{Station}
+use Rattle.station.specs.Header.{typeBits, widthOf, headerOf, typeAgrees}
 
 -- ---- the fields, over the header's width h
 
@@ -15,7 +17,7 @@ use Rattle.station.specs.declared.Station.{Station}
 unfoldable pub packed : ℕ → ℕ → List ℕ → List ℕ
 packed h header words = digits 256 225 (after (2 ^ 32) header words * 2 ^ (8 - h))
 
--- the fields of a record's bytes
+-- the fields of a record's bytes; the header is their first h bits
 unfoldable pub headerIn : ℕ → List ℕ → ℕ
 headerIn h bytes = number 256 bytes / 2 ^ (8 - h) / (2 ^ 32) ^ 56
 
@@ -48,7 +50,7 @@ stationOf mode fs = record { mode = mode; parm = take 20 fs; gainmax = take 6 (d
 unfoldable pub zeros : ℕ → Station
 zeros mode = stationOf mode (replicate 56 (ofBits binary32 0))
 
--- ---- edition 0: a header of 4 bits, which are 2 of the edition and 2 of the mode
+-- ---- the editions: the first 4 bits are 2 of the edition and 2 of the mode, and the edition says how wide the header is
 
 abbrev pub editionIn : List ℕ → ℕ
 editionIn bytes = headerIn 4 bytes / 4
@@ -56,10 +58,20 @@ editionIn bytes = headerIn 4 bytes / 4
 abbrev pub modeIn : List ℕ → ℕ
 modeIn bytes = headerIn 4 bytes % 4
 
--- not refusal 1: 225 bytes, edition 0, no spare bit set
-unfoldable pub isRecord : List ℕ → Bool
-isRecord bytes = eqb (length bytes) 225 && (eqb (editionIn bytes) 0 && eqb (spareIn 4 bytes) 0)
+-- the bits of the type, of a record of this edition
+unfoldable pub typeIn : ℕ → List ℕ → ℕ
+typeIn edition bytes = headerIn (widthOf edition) bytes % 2 ^ typeBits edition
 
--- the bytes of a station. The header is the mode, since the edition before it is 0
-unfoldable pub recordOf : Station → List ℕ
-recordOf s = packed 4 (s .mode) (wordsOf s)
+-- a record of this edition: no spare bit set, and a type that agrees with mode and slot 1
+unfoldable pub isOfEdition : ℕ → List ℕ → Bool
+isOfEdition edition bytes =
+    let h = widthOf edition in
+    eqb (spareIn h bytes) 0 && typeAgrees edition (typeIn edition bytes) (modeIn bytes) (slot (floatsIn h bytes) 1)
+
+-- not refusal 1: 225 bytes, edition 0 or 1, and a record of that edition
+unfoldable pub isRecord : List ℕ → Bool
+isRecord bytes = eqb (length bytes) 225 && leb (editionIn bytes) 1 && isOfEdition (editionIn bytes) bytes
+
+-- the bytes of a station in an edition
+unfoldable pub recordOf : ℕ → Station → List ℕ
+recordOf edition s = packed (widthOf edition) (headerOf edition (s .mode) (slot (s .parm) 1)) (wordsOf s)

@@ -1,7 +1,7 @@
 // Words of 32 bits behind a header of up to 8 bits: word k starts that many bits into byte 4 k.
 use words::big_endian;
 ghost use mathlib.Core.Path.{_≡_};
-ghost use Prim.Native.Nat.{_+_, _*_, _/_, _%_, _^_, _≤_, _<_};
+ghost use Prim.Native.Nat.{_+_, _-_, _*_, _/_, _%_, _^_, _≤_, _<_};
 ghost use mathlib.Core.List.{[], _∷_};
 ghost use lib.ListN.{length, getD};
 ghost use Rattle.words.specs.Digits.{digits};
@@ -51,4 +51,12 @@ pub fn put_word(out: &mut [u8], at: usize, carry: u32, w: u32, header: u32) -> u
     let joined = (carry as u64) * 0x1_0000_0000 + (w as u64);
     big_endian::put_word(out, at, (joined >> header) as u32);
     (joined % unit(header)) as u32
+}
+
+// The last byte: the bits that are left, which are as many as the header's, then spare bits.
+pub fn last_byte(carry: u32, header: u32) -> u8
+    requires { ⌜ (carry < 2 ^ header) × (header ≤ 8) ⌝ }
+    ensures { λ r. ⌜ r ≡ carry * 2 ^ (8 - header) ⌝ }
+{
+    ((carry as u64) * unit(8 - header)) as u8
 }

@@ -7,7 +7,6 @@ use native.Mathlib.Omega.{arith}
 use native.Mathlib.Numerals.{add-one}
 use lib.ListN.{length, getD, replicate}
 use lib.Seq.{paste, paste-zero}
-use lib.Dec.{lit≤}
 use lib.Ieee.{Float, nan, binary32, ofBits}
 use lib.Ieee.Scale.{finite}
 use borrow.Author.Tests.{not-true, not-false}
@@ -24,20 +23,27 @@ abbrev blanks : List Float
 blanks = replicate 56 (ofBits binary32 0)
 
 abbrev Inv-loop : tie.InvT-loop
-Inv-loop bytes mode station₀ k₀ station k = (k ≤ 56) × (finiteTo (floatsIn 4 bytes) k ≡ true) × (station ≡ stationOf mode (paste blanks 0 (floatsIn 4 bytes) k))
+Inv-loop bytes mode header station₀ k₀ station k = (k ≤ 56) × (finiteTo (floatsIn header bytes) k ≡ true) × (station ≡ stationOf mode (paste blanks 0 (floatsIn header bytes) k))
 
 abbrev μ-loop : tie.MeasureT-loop
-μ-loop bytes mode station₀ k₀ station k = 56 - k
+μ-loop bytes mode header station₀ k₀ station k = 56 - k
+
+-- the floats of the record, and how many they are
+abbrev fs : tie.Start Inv-loop μ-loop → List Float
+fs c = floatsIn (c .args .header) (c .args .bytes .now)
+
+fs-length : (c : tie.Start Inv-loop μ-loop) → length (fs c) ≡ 56
+fs-length c = floats-in-length (c .args .header) (c .args .bytes .now)
 
 blank-requires : tie.Need-blank-requires Inv-loop μ-loop
 blank-requires c κs = tt
 
 loop-holds : tie.Need-loop-holds Inv-loop μ-loop
 unfolding finiteTo zeros
-loop-holds c = (omega arith, refl, c .blank .ensures ∙ ap (stationOf (c .before .before .args .mode)) (sym (paste-zero blanks 0 (floatsIn 4 (c .before .before .args .bytes .now)))))
+loop-holds c = (omega arith, refl, c .blank .ensures ∙ ap (stationOf (c .before .before .args .mode)) (sym (paste-zero blanks 0 (fs (c .before .before)))))
 
 word-at-requires : tie.Need-word-at-requires Inv-loop μ-loop
-word-at-requires c κs = (c .before .before .before .before .pre, omega arith, lit≤ tt)
+word-at-requires c κs = (c .before .before .before .before .pre .0, omega arith, c .before .before .before .before .pre .1)
 
 float-of-requires : tie.Need-float-of-requires Inv-loop μ-loop
 float-of-requires c κs = tt
@@ -46,10 +52,10 @@ is-finite-requires : tie.Need-is-finite-requires Inv-loop μ-loop
 is-finite-requires c κs = tt
 
 -- what was read is float k
-read-float : (c : tie.After-float-of Inv-loop μ-loop) → c .float-of .result ≡ getD (floatsIn 4 (c .before .before .before .before .before .before .args .bytes .now)) (c .before .before .before .loop .k) nan
+read-float : (c : tie.After-float-of Inv-loop μ-loop) → c .float-of .result ≡ getD (fs (c .before .before .before .before .before .before)) (c .before .before .before .loop .k) nan
 read-float c =
     let head = c .before .before .before in
-    c .float-of .ensures ∙ ap (ofBits binary32) (c .before .word-at .ensures) ∙ sym (float-in 4 (head .before .before .before .args .bytes .now) (head .loop .k) (omega arith))
+    c .float-of .ensures ∙ ap (ofBits binary32) (c .before .word-at .ensures) ∙ sym (float-in (head .before .before .before .args .header) (head .before .before .before .args .bytes .now) (head .loop .k) (omega arith))
 
 refuse-requires : tie.Need-refuse-requires Inv-loop μ-loop
 refuse-requires c κs = tt
@@ -59,10 +65,10 @@ unfolding floatsAnswer
 returns c =
     let x = c .before .before .before in
     let head = x .before .before .before in
-    let bytes = head .before .before .before .args .bytes .now in
+    let start = head .before .before .before in
     let k = head .loop .k in
-    let e : finite (getD (floatsIn 4 bytes) k nan) ≡ false = sym (ap finite (read-float x)) ∙ sym (c .before .before .is-finite .ensures) ∙ not-true _ (c .before .if1 .taken) in
-    c .refuse .ensures ∙ sym (rw (finite-none (floatsIn 4 bytes) k (omega (arith, floats-in-length 4 bytes)) e))
+    let e : finite (getD (fs start) k nan) ≡ false = sym (ap finite (read-float x)) ∙ sym (c .before .before .is-finite .ensures) ∙ not-true _ (c .before .if1 .taken) in
+    c .refuse .ensures ∙ sym (rw (finite-none (fs start) k (omega (arith, fs-length start)) e))
 
 with-float-requires : tie.Need-with-float-requires Inv-loop μ-loop
 with-float-requires c κs = omega arith
@@ -78,22 +84,20 @@ loop-again c =
     let x = c .before .before .before in
     let head = x .before .before .before in
     let start = head .before .before .before in
-    let fs = floatsIn 4 (start .args .bytes .now) in
     let k = head .loop .k in
-    let e : finite (getD fs k nan) ≡ true = sym (ap finite (read-float x)) ∙ sym (c .before .before .is-finite .ensures) ∙ not-false _ (c .before .if1 .left) in (
+    let e : finite (getD (fs start) k nan) ≡ true = sym (ap finite (read-float x)) ∙ sym (c .before .before .is-finite .ensures) ∙ not-false _ (c .before .if1 .left) in (
       omega arith,
-      rw add-one (finite-more fs k (head .loop .inv .1) e),
-      rw add-one (c .with-float .ensures ∙ pasted (start .args .mode) blanks fs k (x .float-of .result) nan (head .loop .station) (head .loop .inv .2) (read-float x) (omega arith) (omega (arith, floats-in-length 4 (start .args .bytes .now)))),
+      rw add-one (finite-more (fs start) k (head .loop .inv .1) e),
+      rw add-one (c .with-float .ensures ∙ pasted (start .args .mode) blanks (fs start) k (x .float-of .result) nan (head .loop .station) (head .loop .inv .2) (read-float x) (omega arith) (omega (arith, fs-length start))),
     )
 
 returns-2 : tie.Need-returns-2 Inv-loop μ-loop
 unfolding floatsAnswer allFinite
 returns-2 c =
-    let fs = floatsIn 4 (c .before .before .before .before .args .bytes .now) in
-    let n : length fs ≡ 56 = floats-in-length 4 (c .before .before .before .before .args .bytes .now) in
+    let start = c .before .before .before .before in
     let e : c .before .loop .k ≡ 56 = omega arith in
-    let f : allFinite fs ≡ true = ap (finiteTo fs) n ∙ (rw e at (c .before .loop .inv .1)) in
-    let g : c .before .loop .station ≡ stationOf (c .before .before .before .before .args .mode) fs = rw (e, pasted-all blanks fs refl n) at (c .before .loop .inv .2) in
+    let f : allFinite (fs start) ≡ true = ap (finiteTo (fs start)) (fs-length start) ∙ (rw e at (c .before .loop .inv .1)) in
+    let g : c .before .loop .station ≡ stationOf (start .args .mode) (fs start) = rw (e, pasted-all blanks (fs start) refl (fs-length start)) at (c .before .loop .inv .2) in
     rw (g, f)
 
 pub read-floats-spec : {M : Type 1} → statement M

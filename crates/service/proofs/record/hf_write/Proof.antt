@@ -37,7 +37,7 @@ returns-2 : tie.Need-returns-2
 unfolding writeCall
 returns-2 c =
     let write = c .before .before .before in
-    rw (c .code-of .ensures, eq-eqb _ _ (write .before .before .before .if1 .left), ← write .before .before .station-in .ensures, ← write .write .ensures) (coded (write .write .result) (write .write .last .1 .0))
+    rw (c .code-of .ensures, eq-eqb _ _ (write .before .before .before .if1 .left), ← write .before .before .station-in .ensures, ← write .write .ensures) (coded (write .write .result) (write .write .last .1 .1 .0))
 
 pub hf-write-spec : {M : Type 1} → statement M
 hf-write-spec =
