@@ -75,6 +75,7 @@ enum hf_size {
   HF_TIME = 4,            /* words: year, month, day, minute of the day */
   HF_LEVELS_STATE = 66,   /* words: a ring of 64 levels, how many it holds, the next place */
   HF_LEVELS_SHOWN = 3,    /* words: how many, the greatest, the least */
+  HF_PAIRS = 64,          /* pairs of azimuth and elevation of hf_curtain_levels, at most */
   HF_BOARD = 6497         /* words: how many are on, sixteen places of an id and a row, what the board shows */
 };
 
@@ -135,6 +136,15 @@ uint64_t hf_curtain(const float *parm, size_t parm_len, float azimuth, float ele
  * isn't finite (an integral of 0, as of a curtain without bays; hf_curtain with HF_INTEGRATE still answers -1000 where the pattern is
  * 0); 8 first where parm isn't HF_PARM. */
 uint64_t hf_curtain_factor(const float *parm, size_t parm_len);
+
+/* The levels of a curtain at up to HF_PAIRS directions by one factor: directions holds pairs, the azimuth first, and levels a float
+ * for each pair. With HF_INTEGRATE the integral is worked out once, also where there is no pair; each level has the bits that
+ * hf_curtain answers there. Returns kind 0 and the readings of the pattern, 16,471 for the integral (none for a factor that is given)
+ * and one a pair; or HF_REFUSED and the refusal, with the levels as they were. Tested in this order: 2, 5, 7 of the station and the
+ * factor; 8 for more than HF_PAIRS pairs, an odd number of floats or levels that aren't one a pair; then the pairs in turn, of which
+ * the first that is refused (2, 10) refuses the lot under its number. 8 before all of them where parm isn't HF_PARM. */
+uint64_t hf_curtain_levels(const float *parm, size_t parm_len, float factor, const float *directions, size_t directions_len,
+                           float *levels, size_t levels_len);
 
 /* Which slot of parm set-up's refusal is about: HF_REFUSED_AT with the refusal (2, 3, 5, 6, 7) and the slot, 0 to 19: the lowest
  * number, and then the lowest slot that breaks it. 0 where no slot breaks a limit; set-up may still refuse with 8 or 9. HF_REFUSED and

@@ -38,7 +38,7 @@ fn source_file(root: &Path) -> Option<PathBuf> {
 }
 
 /// All that is changed: the elementary methods become document 01's rules, the search's readings are told to `met`, the curtain's
-/// factor to `integrated`, and the file's inner attributes, which an included file can't have, go.
+/// factor to `integrated`, each reading of its pattern to `read`, and the file's inner attributes, which an included file can't have, go.
 fn edited(text: String) -> String {
     let mut text = text.replace("//!", "//");
     text = replaced(text, "#![allow(", "#[allow(", 1);
@@ -49,6 +49,8 @@ fn edited(text: String) -> String {
         text = replaced(text, &format!(".{name}("), &format!(".rule_{name}("), times);
     }
     text = replaced(text, "4.0 * PI / dbltrap(&ant)", "super::super::integrated(4.0 * PI / dbltrap(&ant))", 1);
+    let f2 = "fn f2(ant: &Curtain, theta: R, phi: R) -> R {";
+    text = replaced(text, f2, &format!("{f2}\n        super::super::read();"), 1);
     let (search, end) = (text.find("fn azmax(").unwrap(), text.find("pub fn ccirgain(").unwrap());
     let told = replaced(text[search..end].to_string(), "self.gainrel(u, v)", "super::met(self.gainrel(u, v))", 3);
     format!("{}{told}{}", &text[..search], &text[end..])

@@ -111,4 +111,5 @@ pub const CALLS: &[Call] = calls! {
     curtain_why(parm: Floats)
     curtain_factor(parm: Floats)
     preview(mode: Word, floats: Floats, out: LentWords)
+    curtain_levels(parm: Floats, factor: Float, directions: Floats, levels: LentFloats)
 };

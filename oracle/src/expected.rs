@@ -1,7 +1,7 @@
 //! What document 01 expects of each call: the source's answer, and before it the refusals, lowest number first.
 use super::source::antenna::AntennaFile;
 use super::source::ccir::{antinit2, curtain, setmaxgain, CcirAntenna};
-use super::source::{take_factor, take_readings};
+use super::source::{take_factor, take_pattern_readings, take_readings};
 
 pub type Refusal = u32;
 pub type Parm = [f32; 20];
@@ -128,6 +128,28 @@ pub fn curtain_factor(parm: &Parm) -> Result<f32, Refusal> {
     let factor = take_factor();
     refuse_if(!factor.is_finite(), LEVEL)?;
     Ok(factor)
+}
+
+/// How often the source reads the pattern for one direction.
+pub fn curtain_readings(parm: &Parm, factor: f32) -> u32 {
+    take_pattern_readings();
+    curtain::gain(parm, 0.0, 0.0, factor);
+    take_pattern_readings()
+}
+
+/// The readings of the curtain's integral, and the pairs of a call, as card 1 of document 02 has them.
+pub const INTEGRAL: u32 = 16_471;
+pub const PAIRS: usize = 64;
+
+/// Card 1: the single call at each pair, in order, the first refused one's number; and the readings.
+pub fn curtain_levels(parm: &Parm, factor: f32, directions: &[f32], room: usize) -> Result<(Vec<f32>, u32), Refusal> {
+    refuse_if(any_not_finite(parm) || !factor.is_finite(), VALUE)?;
+    curtain_limits(parm)?;
+    let pairs: Vec<&[f32]> = directions.chunks(2).collect();
+    refuse_if(directions.len() % 2 == 1 || pairs.len() > PAIRS || pairs.len() != room, SPACE)?;
+    let levels: Vec<f32> = pairs.iter().map(|pair| curtain_gain(parm, pair[0], pair[1], factor)).collect::<Result<_, _>>()?;
+    let integral = if factor == -99_999.0 { INTEGRAL } else { 0 };
+    Ok((levels, integral + room as u32))
 }
 
 /// An accepted set-up.

@@ -49,6 +49,7 @@ fn inputs_of(call: &Call) -> (u64, Inputs) {
         "curtain_why" => (60, curtain_why),
         "curtain_factor" => (24, curtain_factor),
         "preview" => (120, preview),
+        "curtain_levels" => (120, curtain_levels),
         name => panic!("{name} has no inputs"),
     }
 }
@@ -399,6 +400,36 @@ fn curtain_factor(random: &mut Random, k: u64) -> Vec<Value> {
     let parm = stations::curtain(random).map(short);
     let parm = if k % 4 == 3 { stations::damaged(random, parm, 1) } else { parm };
     twenty(random, k, parm)
+}
+
+/// Few pairs, so that a list is short, and the most in one of forty; one in ten integrates, one in four has a pair that is refused.
+fn curtain_levels(random: &mut Random, k: u64) -> Vec<Value> {
+    let realistic = stations::curtain(random).map(short);
+    let parm = if k % 8 == 7 { stations::damaged(random, realistic, 1) } else { realistic };
+    let pairs = match k % 40 {
+        38 => 64,
+        39 => 65,
+        _ => random.below(6) as usize,
+    };
+    let mut directions: Vec<f32> =
+        (0..2 * pairs).map(|i| short(random.between(0.0, if i % 2 == 0 { 360.0 } else { 90.0 }))).collect();
+    if k % 4 == 3 && pairs > 0 {
+        let (first, last) = (random.below(pairs as u64) as usize, random.below(pairs as u64) as usize);
+        directions[2 * last] = random.pick(&[f32::NAN, f32::INFINITY]);
+        directions[2 * first + 1] = random.pick(&[f32::NEG_INFINITY, 1e7]);
+    }
+    let (floats, lent) = match k % 20 {
+        13 => (directions.len().saturating_sub(1), pairs),
+        14 => (directions.len(), pairs + 1),
+        _ => (directions.len(), pairs),
+    };
+    let factor = match k % 30 {
+        0 | 10 | 20 => -99_999.0,
+        15 => random.pick(&[0.0, f32::NAN, f32::INFINITY]),
+        _ => short(random.between(0.0, 20.0)),
+    };
+    let [parm] = <[Value; 1]>::try_from(twenty(random, k, parm)).expect("the parameters");
+    vec![parm, Value::Float(factor), Value::Floats(directions[..floats].to_vec()), lent_floats(lent)]
 }
 
 /// Whether a stored record's input is kept: those of a number are made anew, a case goes with its impostor.

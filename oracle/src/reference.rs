@@ -64,6 +64,16 @@ pub fn curtain_factor(parm: &[f32]) -> u64 {
     packed(parm_of(parm).and_then(expected::curtain_factor))
 }
 
+fn try_curtain_levels(parm: &[f32], factor: f32, directions: &[f32], levels: &mut [f32]) -> Result<u64, Refusal> {
+    let (found, readings) = expected::curtain_levels(parm_of(parm)?, factor, directions, levels.len())?;
+    levels.copy_from_slice(&found);
+    Ok(readings.into())
+}
+
+pub fn curtain_levels(parm: &[f32], factor: f32, directions: &[f32], levels: &mut [f32]) -> u64 {
+    try_curtain_levels(parm, factor, directions, levels).unwrap_or_else(refused)
+}
+
 fn try_gains(parm: &[f32], giso: f32, directions: &[f32], out: &mut [u32]) -> Result<(), Refusal> {
     let parm = parm_of(parm)?;
     if directions.len() % 2 == 1 || out.len() != 4 + directions.len() {

@@ -71,6 +71,15 @@ mod raw {
         pub fn hf_why(parm: *const f32, parm_len: usize) -> u64;
         pub fn hf_curtain_why(parm: *const f32, parm_len: usize) -> u64;
         pub fn hf_curtain_factor(parm: *const f32, parm_len: usize) -> u64;
+        pub fn hf_curtain_levels(
+            parm: *const f32,
+            parm_len: usize,
+            factor: f32,
+            directions: *const f32,
+            directions_len: usize,
+            levels: *mut f32,
+            levels_len: usize,
+        ) -> u64;
     }
 }
 
@@ -230,4 +239,11 @@ pub fn curtain_why(parm: &[f32]) -> u64 {
 pub fn curtain_factor(parm: &[f32]) -> u64 {
     // SAFETY: as above.
     unsafe { raw::hf_curtain_factor(parm.as_ptr(), parm.len()) }
+}
+
+pub fn curtain_levels(parm: &[f32], factor: f32, directions: &[f32], levels: &mut [f32]) -> u64 {
+    let (directions_len, directions) = (directions.len(), directions.as_ptr());
+    let (levels_len, levels) = (levels.len(), levels.as_mut_ptr());
+    // SAFETY: as above.
+    unsafe { raw::hf_curtain_levels(parm.as_ptr(), parm.len(), factor, directions, directions_len, levels, levels_len) }
 }

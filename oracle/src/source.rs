@@ -1,5 +1,5 @@
 //! The Rust of the antennas, taken from the source tree by build.rs, over document 01's elementary functions.
-use std::cell::RefCell;
+use std::cell::{Cell, RefCell};
 
 pub mod con {
     pub type R = f32;
@@ -94,6 +94,20 @@ pub fn take_factor() -> f32 {
 fn integrated(factor: f32) -> f32 {
     FACTOR.replace(factor);
     factor
+}
+
+thread_local! {
+    static PATTERN: Cell<u32> = const { Cell::new(0) };
+}
+
+/// The readings of a curtain's pattern since the last call, which starts a new count.
+pub fn take_pattern_readings() -> u32 {
+    PATTERN.replace(0)
+}
+
+/// A reading of a curtain's pattern.
+fn read() {
+    PATTERN.set(PATTERN.get() + 1);
 }
 
 #[allow(dead_code, clippy::all)]

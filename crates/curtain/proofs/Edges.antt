@@ -14,7 +14,7 @@ use Rattle.curtain.specs.Literals.{n1020}
 use Rattle.curtain.specs.Azimuth.{iaz, folded}
 use Rattle.curtain.specs.Pattern.{efOf, bayCosines, baySines, bayPower, stackSines, stackPower, f2}
 use Rattle.curtain.specs.Pattrn0.{nostakOf, nbsOf, toMetres, betaOf, lengthsOf, curtainOf}
-use Rattle.curtain.specs.Level.{factorOf, decibels, levelOf}
+use Rattle.curtain.specs.Level.{factorOf, decibels, levelAt, levelOf}
 use Rattle.curtain.specs.Answers.{stationFinite, bandOk, aimOk, stationRefusalOf, refusalOf, graded, curtainGain}
 
 abbrev pub bare : List Float
@@ -26,6 +26,6 @@ bare =
 pub bare-curtain :
     (curtainGain bare +0 +0 one ≡ accepted (neg n1000))
     × (curtainGain bare n180 +0 one ≡ accepted (neg n1020))
-unfolding curtainGain refusalOf stationRefusalOf stationFinite allFinite finiteTo bandOk inBand fromTo aimOk between graded levelOf factorOf decibels curtainOf nostakOf nbsOf lengthsOf toMetres betaOf iaz folded f2 efOf bayPower bayCosines baySines stackSines stackPower nintOf ofBits neg add sub mul div lt le eq ne toSigned
+unfolding curtainGain refusalOf stationRefusalOf stationFinite allFinite finiteTo bandOk inBand fromTo aimOk between graded levelOf levelAt factorOf decibels curtainOf nostakOf nbsOf lengthsOf toMetres betaOf iaz folded f2 efOf bayPower bayCosines baySines stackSines stackPower nintOf ofBits neg add sub mul div lt le eq ne toSigned
 bare-curtain =
     (rw (sine-zero, cos-zero, sine-zero, cos-zero), rw (sine-zero, cos-zero, sin-small, cos-small, sine-zero, cos-zero))

@@ -3,6 +3,9 @@ pub mod Unslewed
 pub mod Edges
 pub mod FactorAnswers
 pub mod WhyNumber
+pub mod ReadingCount
+pub mod Directions
 mod Mirror
 mod InSteps
+mod InOrder
 mod Few

@@ -16,7 +16,7 @@ use Rattle.curtain.specs.Literals.{D2R}
 use Rattle.curtain.specs.Excitation.{phaseAt, slewStep, signed, bayphs}
 use Rattle.floats.specs.Filled.{filledTo}
 use Rattle.curtain.specs.Pattrn0.{islewOf, nbsOf, odratOf, bayPhases, curtainOf}
-use Rattle.curtain.specs.Level.{levelOf}
+use Rattle.curtain.specs.Level.{levelAt, levelOf}
 use Rattle.curtain.specs.Answers.{refusalOf, curtainGain}
 use Rattle.curtain.proofs.Mirror.{Unphased, f2-mirror, iaz-neg, folded-neg}
 
@@ -87,7 +87,7 @@ module _ (parm : List Float) (h : natAbs (islewOf parm) ≤ 3) where
 
 module _ (parm : List Float) (h : natAbs (islewOf parm) ≤ 3) (azimd elevd gnorm : Float) where
   level-mirror : levelOf parm (neg azimd) elevd gnorm ≡ levelOf parm azimd elevd gnorm
-  unfolding levelOf
+  unfolding levelOf levelAt
   level-mirror =
       rw (mul-neg-left, iaz-neg, ← f2-mirror (curtainOf parm) (unphased parm h) (elevd ⊗ D2R) (folded-neg (azimd ⊗ D2R)))
 

@@ -9,5 +9,7 @@ pub mod Level
 pub mod Answers
 pub mod Factor
 pub mod Why
+pub mod Levels
 -- the code's steps, proved equal
 pub mod PatternSteps
+pub mod LevelsSteps

@@ -4,7 +4,9 @@
 // slew step is 0 (`step-zero`), answers alike at an azimuth and at its negative (`curtain-mirror`;
 // both in proofs/Unslewed.antt). `factor` tells what the integral finds (specs/Factor.antt,
 // `factorFound`): asked with it, a curtain answers in every direction what it answers with -99999
-// (`factor-answers`, proofs/FactorAnswers.antt). `why::why` tells which slot a refusal is about
+// (`factor-answers`, proofs/FactorAnswers.antt). `levels::levels` answers up to 64 directions from one
+// integral, with the readings that it took (specs/Levels.antt, `levelsCall`): each level is what `gain`
+// answers there (`each-level`, proofs/Directions.antt). `why::why` tells which slot a refusal is about
 // (specs/Why.antt, `whyOf`), under the station's own number (`why-number`, proofs/WhyNumber.antt).
 pub mod answer;
 mod azimuth;
@@ -14,6 +16,7 @@ mod direction;
 mod excitation;
 mod integral;
 mod level;
+pub mod levels;
 mod pattern;
 mod pattrn0;
 mod refusal;
@@ -45,5 +48,6 @@ pub fn factor(parm: [f32; 20]) -> Gain
     if 0 < number {
         return Gain::Refused(number);
     }
-    answer::graded(level::factor_of(parm, -99999.0))
+    let found = level::factor_of(parm, -99999.0);
+    answer::graded(found.value)
 }

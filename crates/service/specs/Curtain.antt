@@ -1,4 +1,4 @@
--- `hf_curtain` and `hf_curtain_factor`: the curtain's gain and factor, their answers as one number. Definitions only.
+-- `hf_curtain`, `hf_curtain_factor` and `hf_curtain_levels`: the curtain's gain, factor and levels at many directions, their answers as one number. Definitions only.
 use Prim.Native.Nat.{ℕ}
 use mathlib.Core.Bool.{cond, not}
 use mathlib.Core.List.{List}
@@ -6,8 +6,10 @@ use lib.ListN.{length}
 use lib.Dec.{eqb}
 use lib.Ieee.{Float, binary32, toBits}
 use Rattle.answers.specs.Outcome.{Outcome, refused, accepted}
+use Rattle.answers.specs.Refusals.{SPACE}
 use Rattle.curtain.specs.Answers.{curtainGain}
 use Rattle.curtain.specs.Factor.{factorFound}
+use Rattle.curtain.specs.Levels.{levelsCall}
 use Rattle.service.specs.Packed.{refusedAs}
 
 -- a level's or a factor's bits, or the refusal's number under kind 3
@@ -22,3 +24,14 @@ curtainCall parm azimuth elevation factor =
 
 unfoldable pub factorCall : List Float → ℕ
 factorCall parm = packed (cond (not (eqb (length parm) 20)) (refused 8) (factorFound parm))
+
+-- the readings, or the refusal's number under kind 3
+unfoldable pub counted : Outcome ℕ → ℕ
+counted (accepted n) = n
+counted (refused n) = refusedAs n
+
+-- the number that the call returns, and what it leaves in the lent levels
+unfoldable pub curtainLevelsCall : List Float → Float → List Float → List Float → ℕ × List Float
+curtainLevelsCall parm factor directions levels =
+    let answer = levelsCall parm factor directions levels in
+    cond (not (eqb (length parm) 20)) (refusedAs SPACE, levels) (counted (answer .0), answer .1)

@@ -21,7 +21,7 @@ graded-requires c κs = search needs
 
 returns-2 : tie.Need-returns-2
 unfolding factorFound
-returns-2 c = c .graded .ensures ∙ simp (← c .before .before .before .station-refusal .ensures, le-ltb _ _ (c .before .before .if1 .left), c .before .factor-of .ensures)
+returns-2 c = c .graded .ensures ∙ simp (← c .before .before .before .station-refusal .ensures, le-ltb _ _ (c .before .before .if1 .left), c .before .factor-of .ensures .0)
 
 pub factor-spec : {M : Type 1} → statement M
 factor-spec =

@@ -63,6 +63,17 @@ fn curtain(name: &str, factor: f32, rounds: usize, calls: usize) {
     row(name, least(rounds, calls, [&mut |_| call(service::curtain), &mut |_| call(reference::curtain)]));
 }
 
+/// Card 1: one call of 64 directions beside so many single calls, by this factor.
+fn directions(name: &str, factor: f32, rounds: usize, single: usize) {
+    let mut random = Random(26);
+    let mut parm = stations::curtain(&mut random);
+    (parm[5], parm[6]) = (4.0, 4.0);
+    let pairs: Vec<f32> = (0..128).map(|k| (k % 61) as f32 + 0.5).collect();
+    let many = || assert!(black_box(service::curtain_levels)(&parm, factor, &pairs, &mut [0.0; 64]) >> 32 == 0);
+    let alone = |pair: &[f32]| assert!(black_box(service::curtain)(&parm, pair[0], pair[1], factor) >> 32 == 0);
+    row(name, least(rounds, 1, [&mut |_| many(), &mut |_| pairs.chunks(2).take(single).for_each(alone)]));
+}
+
 /// Stations with nothing broken, of which every slot is tried for every limit.
 fn why() {
     let mut random = Random(25);
@@ -197,4 +208,7 @@ pub fn run() {
     plate();
     println!("\n| call | preview µs | maximum gain µs | ratio |\n|---|---|---|---|");
     [(0, 2), (1, 2), (1, 8), (2, 2)].into_iter().for_each(|(mode, jant)| preview(mode, jant));
+    println!("\n| a curtain's 64 directions beside | one call µs | single calls µs | ratio |\n|---|---|---|---|");
+    directions("one single call, integral", -99_999.0, 200, 1);
+    directions("64 single calls, factor", 1.5, 20_000, 64);
 }

@@ -5,7 +5,7 @@ use oracle::report::Comparison;
 use oracle::{reference, service, stations};
 
 /// The factor that asks for the integral of 16,471 readings.
-const INTEGRATE: f32 = -99_999.0;
+pub const INTEGRATE: f32 = -99_999.0;
 
 struct Case {
     parm: Vec<f32>,
@@ -15,7 +15,7 @@ struct Case {
 }
 
 /// Whole degrees, the ends of the fold, and any other.
-fn azimuth(random: &mut Random) -> f32 {
+pub fn azimuth(random: &mut Random) -> f32 {
     let fold = random.pick(&[90.0f32, -90.0, 270.0, -270.0]).to_bits();
     match random.below(8) {
         0 => stations::odd(random),
@@ -25,7 +25,7 @@ fn azimuth(random: &mut Random) -> f32 {
     }
 }
 
-fn elevation(random: &mut Random) -> f32 {
+pub fn elevation(random: &mut Random) -> f32 {
     match random.below(8) {
         0 => stations::odd(random),
         1 | 2 => random.below(91) as f32,
@@ -34,7 +34,7 @@ fn elevation(random: &mut Random) -> f32 {
 }
 
 /// A factor beside the integral's too; never the integral's own.
-fn factor(random: &mut Random) -> f32 {
+pub fn factor(random: &mut Random) -> f32 {
     match random.below(8) {
         0 => stations::odd(random),
         1 => random.pick(&[0.0, -0.0, -1.0, 1.0, -99_998.99, -99_999.01, 99_999.0]),

@@ -14,6 +14,8 @@ mod calendar;
 mod cases;
 #[cfg(source)]
 mod curtains;
+#[cfg(source)]
+mod directions;
 mod edges;
 #[cfg(source)]
 mod gains;
@@ -79,6 +81,8 @@ const CALLS: &[Call] = &[
     ("why", 300_000, whys::compare),
     #[cfg(source)]
     ("curtain_factor", 300, curtains::compare_factor),
+    #[cfg(source)]
+    ("curtain_levels", 670, directions::compare),
 ];
 
 /// A word of the command line: a call, with its number of cases or the gate's.

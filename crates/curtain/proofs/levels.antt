@@ -1,0 +1,2 @@
+-- What the proof of `levels` stands on.
+mod Steps
