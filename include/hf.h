@@ -86,7 +86,8 @@ enum hf_seasons { HF_SEASON_A = 0, HF_SEASON_B = 1 };
 #define HF_INTEGRATE (-99999.0f)
 
 /* An elementary function, bits in and bits out: 0 sin, 1 cos, 2 ln, 3 log10, 4 powf(a, b), 5 atan, 6 sqrt. Returns a NaN outside
- * the function's domain. b counts for powf alone. */
+ * the function's domain: |a| up to 65536 for sin and cos; positive and finite, subnormal too, for ln and log10; a positive and normal
+ * and 0 < b <= 1 for powf; all but a NaN for atan. b counts for powf alone. */
 uint32_t hf_leaf(uint32_t which, uint32_t a, uint32_t b);
 
 /* The maximum gain. mode: 0 as parm has it, 1 by the ratio of operating to design MHz, 2 by MHz. floats, HF_MAXGAIN_FLOATS: parm,
@@ -128,7 +129,8 @@ uint64_t hf_plate_row(const uint32_t *antenna, size_t antenna_len, const float *
 
 /* The gain of a curtain, whose 20 parameters have places of their own; factor is its normalising factor, or HF_INTEGRATE to find
  * it by integration, some 3 ms. Returns HF_LEVEL and the bits of the level in dBi, which has no floor, or HF_REFUSED and the refusal
- * (2, 5, 7, 10; 8 first where parm isn't HF_PARM). */
+ * (2, 5, 7; 10 where the pattern isn't 0 and times the factor is 0 or not finite, as with a factor of 0; 8 first where parm isn't
+ * HF_PARM). */
 uint64_t hf_curtain(const float *parm, size_t parm_len, float azimuth, float elevation, float factor);
 
 /* The factor that a curtain's integral finds, some 3 ms. Asked with it, hf_curtain answers the bits that it answers with HF_INTEGRATE,

@@ -1,6 +1,7 @@
-//! Plausible and false: the wrong programs that document 01 names ("Plausible and false", "Before a test is written"), each an edit
-//! of the source's text or of the oracle's over it. Stored cases named after an impostor show it; `compare impostors` holds that
-//! each of them does. build.rs mounts this file too and puts a switch at each place.
+//! Plausible and false: the wrong programs that document 01 names ("Plausible and false", "Before a test is written"), and its
+//! logarithm of normal numbers alone, which document 02's card 3 replaces; each an edit of the source's text or of the oracle's over
+//! it. Stored cases named after an impostor show it; `compare impostors` holds that each of them does. build.rs mounts this file too
+//! and puts a switch at each place.
 
 pub struct Impostor {
     pub name: &'static str,
@@ -81,4 +82,20 @@ pub const IMPOSTORS: &[Impostor] = &[
         ..CURTAIN
     },
     Impostor { name: "sines left to right", old: "fzphr * cof", new: "fzphr * stheta * sphi", ..CURTAIN },
+    Impostor {
+        name: "no log10 of a subnormal number",
+        file: "source.rs",
+        after: "fn rule_log10(self) -> f32 {",
+        old: "plain::log10(self)",
+        new: "if self < f32::MIN_POSITIVE { f32::NAN } else { plain::log10(self) }",
+        ..CURTAIN
+    },
+    Impostor {
+        name: "no ln of a subnormal number",
+        call: "setup",
+        file: "source.rs",
+        after: "fn rule_ln(self) -> f32 {",
+        old: "plain::ln(self)",
+        new: "if self < f32::MIN_POSITIVE { f32::NAN } else { plain::ln(self) }",
+    },
 ];

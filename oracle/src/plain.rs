@@ -79,9 +79,15 @@ fn normal(x: f32) -> bool {
     (f32::MIN_POSITIVE..f32::INFINITY).contains(&x)
 }
 
+/// Of a positive finite number, as m × 2^e; a subnormal one's digits are moved up.
 fn binary_logarithm(x: f32) -> i64 {
     let bits = u64::from(x.to_bits());
-    let mut m = ((bits & 0x7f_ffff) + 0x80_0000) << 7;
+    let (mut m, e) = if bits < 0x80_0000 {
+        let up = bits.leading_zeros() - 40;
+        (bits << (up + 7), -126 - i64::from(up))
+    } else {
+        (((bits & 0x7f_ffff) + 0x80_0000) << 7, (bits >> 23) as i64 - 127)
+    };
     let mut digits = 0;
     for _ in 0..30 {
         m = (m * m) >> 30;
@@ -91,11 +97,11 @@ fn binary_logarithm(x: f32) -> i64 {
             m >>= 1;
         }
     }
-    ((bits >> 23) as i64 - 127) * ONE as i64 + digits
+    e * ONE as i64 + digits
 }
 
 fn logarithm(x: f32, k: i64) -> f32 {
-    if normal(x) {
+    if x > 0.0 && x < f32::INFINITY {
         from_signed_units((binary_logarithm(x) * k) >> 24)
     } else {
         f32::NAN

@@ -1,4 +1,5 @@
-//! Document 01, "Leaves", word by word, in 128-bit whole numbers: slow, and meant to be read.
+//! Document 01, "Leaves", word by word, in 128-bit whole numbers: slow, and meant to be read. The logarithm is that of document 02's
+//! card 3, of every positive finite number.
 //! Written from the paper, apart from the Rattle. One unit is 2^-30.
 
 /// 1, in units.
@@ -127,12 +128,16 @@ fn digits(x: i128, left: u32) -> i128 {
     }
 }
 
-/// L, of a positive normal number; nothing for any other.
+/// L, of a positive finite number; nothing for any other. "m is scaled to 1 ≤ m < 2 and e goes down to -149".
 fn binary_logarithm(x: f32) -> Option<i128> {
-    if !x.is_normal() || x < 0.0 {
+    if !x.is_finite() || x <= 0.0 {
         return None;
     }
-    let (m, e) = parts(x);
+    // m in units of 2^-23
+    let (mut m, mut e) = parts(x);
+    while m < 1 << 23 {
+        (m, e) = (2 * m, e - 1);
+    }
     Some(i128::from(e + 23) * ONE + digits(m << 7, 30))
 }
 
@@ -156,7 +161,7 @@ pub fn powf(x: f32, y: f32) -> f32 {
     let Some(l) = binary_logarithm(x) else {
         return f32::NAN;
     };
-    if !(y > 0.0 && y <= 1.0) {
+    if !(x.is_normal() && y > 0.0 && y <= 1.0) {
         return f32::NAN;
     }
     let e = (l * truncated(y, 24)).div_euclid(1 << 24);

@@ -13,10 +13,11 @@ use lib.Dec.{T, ltb, eqb, lit≤}
 use lib.Ieee.{Float, nan, inf, fin, binary32, unlike, up, down, round, sum, add, mul, neg, le, lt, eq, fits, ofBits}
 use lib.Ieee.Exact.{HasValue}
 use lib.Ieee.Fits.{down-pos, up-pos, nan-fits, round-fits, cond-fits, mul-fits}
+use lib.Ieee.Positive.{positive}
 use lib.Ieee.Order.{round-mono}
 use lib.Ieee.Scale.{finite, round-val, round-under}
 use Rattle.numeric.specs.Rounding.{F, steps}
-use Rattle.numeric.specs.Logarithm.{normal, logarithmTimes, log10Of}
+use Rattle.numeric.specs.Logarithm.{logarithmTimes, log10Of}
 use Rattle.numeric.proofs.Steps.{own-steps, held-low}
 use Rattle.floats.specs.Ops.{_⊖_, _⊕_, _⊗_, _⊘_, +0, zero±, at}
 use Rattle.floats.specs.Literals.{twenty}
@@ -160,7 +161,7 @@ units-fit (negsuc w) = round-fits binary32 true (suc w) (2 ^ 30)
 
 logarithm-plain : (x : Float) → Plain (twenty ⊗ log10Of x)
 unfolding logarithmTimes
-logarithm-plain x = rw twenty-is (go (normal x) _)
+logarithm-plain x = rw twenty-is (go (positive x) _)
   where
     go : (b : Bool) (z : ℤ) → Plain (fin false 5 (pos 2) ⊗ cond b (F z) nan)
     go true z = times-plain 4 2 (F z) (units-fit z) (units-plain z)

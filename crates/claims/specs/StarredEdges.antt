@@ -1,5 +1,5 @@
--- Document 01, "Edges": the starred ones, in its order, one table. Definitions only.
-use Prim.Native.Nat.{_*_, _^_}
+-- Document 01, "Edges": the starred ones, in its order, and after the logarithm's those of document 02's card 3; one table. Definitions only.
+use Prim.Native.Nat.{_+_, _*_, _^_}
 use mathlib.Core.Path.{_≡_}
 use mathlib.Core.Bool.{false}
 use mathlib.Core.List.{List}
@@ -7,7 +7,7 @@ use lib.IntN.{pos, negℤ}
 use lib.ListN.{length, set, replicate}
 use lib.Ieee.{Float, nan, neg, isNan}
 use Rattle.numeric.specs.Sine.{sine, cosine}
-use Rattle.numeric.specs.Logarithm.{binaryLogarithm, log10Of}
+use Rattle.numeric.specs.Logarithm.{binaryLogarithm, log10Of, lnOf}
 use Rattle.numeric.specs.Root.{sqrtOf}
 use Rattle.floats.specs.Ops.{_⊕_, _⊖_, +0, at}
 use Rattle.floats.specs.Literals.{literal, one, two, four, ten, thirty, thirtyOne}
@@ -36,6 +36,15 @@ pub record StarredEdges : Type 0 where
   pub logarithm-8 : binaryLogarithm (literal 0x41000000) ≡ pos (3 * 2 ^ 30)
   -- log10 1 = 0
   pub log10-1 : log10Of one ≡ +0
+  -- card 3: L of the least positive float is -149 × 2^30, of the greatest subnormal one below -126 × 2^30, that of the least normal one
+  pub logarithm-least : binaryLogarithm (literal 1) ≡ negℤ (pos (149 * 2 ^ 30))
+  pub logarithm-subnormal : binaryLogarithm (literal 0x7fffff) ≡ negℤ (pos (126 * 2 ^ 30 + 185))
+  pub logarithm-normal : binaryLogarithm (literal 0x800000) ≡ negℤ (pos (126 * 2 ^ 30))
+  -- log10 and ln of both: -44.853466 and -37.929779, -103.27893 and -87.33655
+  pub log10-least : log10Of (literal 1) ≡ literal 0xc23369f3
+  pub log10-subnormal : log10Of (literal 0x7fffff) ≡ literal 0xc217b818
+  pub ln-least : lnOf (literal 1) ≡ literal 0xc2ce8ed0
+  pub ln-subnormal : lnOf (literal 0x7fffff) ≡ literal 0xc2aeac50
   -- sqrt 4 = 2
   pub sqrt-4 : sqrtOf four ≡ two
   -- `nint` 2.5 = 3, -2.5 = -3

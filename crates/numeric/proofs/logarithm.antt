@@ -1,4 +1,4 @@
--- The logarithms: the digits (`Digits`), the parts of a normal number (`Parts`), and bounds and order (`Laws`).
+-- The logarithms: the digits (`Digits`), the exponent and the significand (`Parts`), and bounds and order (`Laws`).
 pub mod Digits
 pub mod Parts
 pub mod Laws

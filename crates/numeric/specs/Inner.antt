@@ -1,6 +1,5 @@
 -- Not of document 01: what the code's inner steps ask of one another, where their words are wide enough. No public contract cites it. Definitions only.
 use mathlib.Core.Path.{_≡_}
-use mathlib.Core.Logic.{_⊎_}
 use Prim.Native.Nat.{ℕ, _+_, _*_, _^_, _≤_, _<_, min}
 use mathlib.Core.Bool.{Bool, false, not}
 use lib.IntN.{ℤ, pos, negsuc}
@@ -15,12 +14,12 @@ unsigned nan = false
 unsigned (inf s) = not s
 unsigned (fin s m e) = not s
 
--- how the code reads a finite number: it is m * 2 ^ k steps in size, with 24 digits in m, or fewer where k is 0
-pub record Stepped (x : Float) (m k : ℕ) : Type 0 where
-  pub whole : steps x ≡ m * 2 ^ k
-  pub short : m < 2 ^ 24
-  pub full : (k ≡ 0) ⊎ (2 ^ 23 ≤ m)
-  pub few : k < 2 ^ 8
+-- how the code reads a positive number, normal or not, as m × 2 ^ e with 1 ≤ m < 2: m is M in units of 2 ^ -23, and e is k - 149
+pub record Normalised (x : Float) (M k : ℕ) : Type 0 where
+  pub whole : steps x * 2 ^ 23 ≡ M * 2 ^ k
+  pub from : 2 ^ 23 ≤ M
+  pub below : M < 2 ^ 24
+  pub few : k < 2 ^ 8 + 23
 
 -- ---- the sine
 

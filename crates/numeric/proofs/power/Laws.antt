@@ -1,24 +1,29 @@
--- The laws of powf: the sum of the series is from 2 ^ 30 to 13 * 2 ^ 30, an integer E is its whole part and its remainder, and E stays in the range of the exponents.
+-- The laws of powf: the sum of the series is from 2 ^ 30 to 13 * 2 ^ 30, an integer E is its whole part and its remainder, a normal number is 2 ^ 23 steps or more, and E stays in the range of the exponents.
 use mathlib.Core.Path.{_≡_, refl, sym, ap, _∙_, subst}
-use mathlib.Core.Bool.{true, false}
+use mathlib.Core.Bool.{Bool, true, false}
 use Prim.Native.Nat.{ℕ, zero, suc, _+_, _-_, _*_, _/_, _%_, _^_, _≤_, _<_}
-use native.Mathlib.Nat.{le-refl, le-trans, mul-one, one-mul, mul-le-mul, mul-le-mul-left, div-le-self}
+use native.Mathlib.Nat.{le-refl, le-trans, le-of-eq, lt-of-lt-of-le, lt-of-not-le, not-le-of-lt, mul-one, one-mul, mul-assoc, mul-comm, mul-le-mul, mul-le-mul-left, mul-le-mul-right, le-div-iff-mul-le, le-of-suc-le-suc, div-le-self}
 use native.Mathlib.Omega.{arith}
 use lib.IntN.{ℤ, pos, negsuc, negℤ, subℕ, _+ℤ_, _-ℤ_, _*ℤ_, negℤ-negℤ}
 use lib.Signed.{shrZ}
 use lib.Dec.{T}
-use lib.Pow.{pow-add, pow-pos}
+use lib.Pow.{pow-add, pow-pos, pow-mono}
 use lib.Ieee.{Float, nan, inf, fin, binary32, up, down, lt, le, fits, ofBits}
-use lib.Ieee.Fits.{and-r}
+use lib.Ieee.Digits.{size-le}
+use lib.Ieee.Fits.{and-l, and-r, down-pos}
 use lib.Ieee.Exact.{HasValue}
-use Rattle.numeric.specs.Logarithm.{normal, scaled, exponent, significand, digits, binaryLogarithm}
-use Rattle.numeric.specs.Power.{term, sumTo, remainder, isExponent}
-use Rattle.numeric.specs.Inner.{InRange}
+use lib.Ieee.Positive.{positive, above-of-le, le→cross}
+use Rattle.numeric.specs.Rounding.{steps}
+use Rattle.numeric.specs.Logarithm.{scaled, exponent, significand, digits, binaryLogarithm}
+use Rattle.numeric.specs.Power.{term, sumTo, remainder, least, normal, isExponent}
+use Rattle.numeric.specs.Inner.{Normalised, InRange}
 use Rattle.numeric.proofs.Comparisons.{at-most-of-le, AtMost}
 use Rattle.numeric.proofs.logarithm.Digits.{digits-lt}
 use Rattle.numeric.proofs.Integers.{by-order, sub-pos, sub-add, sub-mul, minus}
-use Rattle.numeric.proofs.logarithm.Parts.{parts, exponent-is}
+use Rattle.numeric.proofs.logarithm.Parts.{below, count, exponent-is}
+use Rattle.numeric.proofs.rounding.Normalised.{normalised}
 use Rattle.numeric.proofs.rounding.PowersOfTwo.{power-value}
+use Rattle.numeric.proofs.Steps.{steps-lt}
 use Rattle.numeric.proofs.power.Scaling.{Deep}
 use Rattle.numeric.proofs.Values.{rescale}
 
@@ -56,6 +61,47 @@ remainder-is (negsuc a) =
     let p : n - suc a ≡ 2 ^ 30 - suc (a % 2 ^ 30) = omega arith in
     ap (λ (z : ℤ). negsuc a +ℤ z) (negℤ-negℤ (pos n)) ∙ sub-pos n (suc a) (omega arith) ∙ ap pos p
 
+-- ---- a normal number is positive, and 2 ^ 23 steps or more
+
+no-nan : T (normal nan) → ⊥
+unfolding le
+no-nan t = t
+
+no-infinity : (s : Bool) → T (normal (inf s)) → ⊥
+unfolding le lt
+no-infinity true t = t
+no-infinity false t = t
+
+at-least : (x : Float) → T (normal x) → T (le least x)
+at-least x t = and-l (le least x) (lt x (inf false)) t
+
+pub normal-positive : (x : Float) → T (normal x) → T (positive x)
+normal-positive nan t = absurd (no-nan t)
+normal-positive (inf s) t = absurd (no-infinity s t)
+normal-positive (fin true m e) t = above-of-le least (fin true m e) tt (at-least (fin true m e) t)
+normal-positive (fin false m e) t = above-of-le least (fin false m e) tt (at-least (fin false m e) t)
+
+-- both sides times a number. The powers of two come in as variables, since their numerals are too long for `omega`
+scale-le : (c t A B : ℕ) → c ≤ t * A → B * c ≤ t * (A * B)
+scale-le c t A B h = le-trans (le-of-eq (mul-comm B c)) (le-trans (mul-le-mul-right B h) (le-of-eq (mul-assoc t A B)))
+
+steps-from : (m : ℕ) (e : ℤ) → T (normal (fin false m e)) → 2 ^ 23 ≤ steps (fin false m e)
+steps-from m e t =
+    let x = fin false m e in
+    let c : down e ≤ m * up e * 2 ^ 126 = le-trans (le-of-eq (sym (one-mul (down e)))) (le→cross least x tt (normal-positive x t) (at-least x t)) in
+    le-div-iff-mul-le (down-pos e) .1 (scale-le (down e) (m * up e) (2 ^ 126) (2 ^ 23) c)
+
+-- so its exponent, from -149 on, is 23 to 276
+normal-exponent : (x : Float) (M k : ℕ) → T (fits binary32 x) → T (normal x) → Normalised x M k → (23 ≤ k) × (k ≤ 276)
+normal-exponent nan M k f t p = absurd (no-nan t)
+normal-exponent (inf s) M k f t p = absurd (no-infinity s t)
+normal-exponent (fin true m e) M k f t p = absurd (normal-positive (fin true m e) t)
+normal-exponent (fin false m e) M k f t p =
+    let x = fin false m e in (
+      le-of-suc-le-suc (lt-of-not-le (λ (h : suc k ≤ 23). not-le-of-lt (lt-of-lt-of-le (below x M k p) (pow-mono h)) (steps-from m e t))),
+      omega (arith, count x M k p, size-le (steps x) 277 (steps-lt false m e f)),
+    )
+
 -- ---- E lies from -126 * 2 ^ 30 to below 128 * 2 ^ 30
 
 -- the field of an exponent: w + 127 as a number from 1 to 254
@@ -84,16 +130,18 @@ field (negsuc a) h =
       },
     )
 
-sub-range : (A : ℕ) → 2 ^ 30 ≤ A → A < 255 * 2 ^ 30 → InRange (subℕ A (127 * 2 ^ 30))
-sub-range A h k = by-order InRange A (127 * 2 ^ 30) (λ l. omega arith) (λ l. omega arith)
+sub-range : (A : ℕ) → 23 * 2 ^ 30 ≤ A → A < 277 * 2 ^ 30 → InRange (subℕ A (149 * 2 ^ 30))
+sub-range A h k = by-order InRange A (149 * 2 ^ 30) (λ l. omega arith) (λ l. omega arith)
 
 pub logarithm-range : (x : Float) → T (fits binary32 x) → T (normal x) → InRange (binaryLogarithm x)
 unfolding binaryLogarithm
 logarithm-range x f t =
-    let p = parts x f t in
+    let parts = normalised x f (normal-positive x t) in
+    let k = parts .1 in
     let d = digits 30 (significand x) in
-    let e : exponent x *ℤ pos (2 ^ 30) +ℤ pos d ≡ subℕ ((p .k + 1) * 2 ^ 30 + d) (127 * 2 ^ 30) = ap (λ (z : ℤ). z *ℤ pos (2 ^ 30) +ℤ pos d) (exponent-is x p) ∙ ap (λ (z : ℤ). z +ℤ pos d) (sub-mul (p .k + 1) 127 (2 ^ 30) (pow-pos 30)) ∙ sub-add ((p .k + 1) * 2 ^ 30) (127 * 2 ^ 30) d in
-    subst InRange (sym e) (sub-range ((p .k + 1) * 2 ^ 30 + d) (omega arith) (omega (arith, p .few, digits-lt 30 (significand x))))
+    let bounds = normal-exponent x (parts .0) k f t (parts .2) in
+    let e : exponent x *ℤ pos (2 ^ 30) +ℤ pos d ≡ subℕ (k * 2 ^ 30 + d) (149 * 2 ^ 30) = ap (λ (z : ℤ). z *ℤ pos (2 ^ 30) +ℤ pos d) (exponent-is x (parts .0) k (parts .2)) ∙ ap (λ (z : ℤ). z +ℤ pos d) (sub-mul k 149 (2 ^ 30) (pow-pos 30)) ∙ sub-add (k * 2 ^ 30) (149 * 2 ^ 30) d in
+    subst InRange (sym e) (sub-range (k * 2 ^ 30 + d) (omega (arith, bounds .0)) (omega (arith, bounds .1, digits-lt 30 (significand x))))
 
 floor-range : (a n : ℕ) → n ≤ suc a * 2 ^ 24 → a < 126 * 2 ^ 30 → InRange (shrZ (negℤ (pos n)) (2 ^ 24))
 floor-range a zero h l = omega arith

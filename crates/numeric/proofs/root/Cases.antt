@@ -1,34 +1,15 @@
--- What a comparison with 0 says of a float, and what the square root is where it is no rounded number.
+-- What the square root is where it is no rounded number.
 use mathlib.Core.Path.{_≡_, refl, sym, _∙_}
-use Prim.Native.Nat.{ℕ, zero, suc, _*_, _<_, zero-le}
-use native.Mathlib.Nat.{le-trans, le-of-eq, lt-of-le-of-lt, not-le-of-lt, zero-lt-suc, zero-mul, mul-pos}
+use Prim.Native.Nat.{ℕ, zero, suc, _*_}
+use native.Mathlib.Nat.{le-trans, le-of-eq, not-le-of-lt, zero-mul}
 use mathlib.Core.Bool.{Bool, true, false, _&&_, _||_, Bool·beq, true≢false, false≢true}
-use lib.Dec.{T, eqb, lt→ltb, eqb→eq}
-use lib.IntN.{ℤ, pos}
+use lib.Dec.{eqb, eqb→eq}
+use lib.IntN.{ℤ}
 use lib.Ieee.{Float, nan, inf, fin, up, down, lt, eq}
-use lib.Ieee.Fits.{up-pos, and-l}
-use lib.Ieee.Positive.{positive, first-pos}
-use borrow.Author.Tests.{ltb-true, ltb-false}
+use lib.Ieee.Fits.{and-l}
+use borrow.Author.Tests.{ltb-false}
 use Rattle.numeric.specs.Root.{sqrtOf}
-use Rattle.numeric.proofs.Comparisons.{holds}
-
-abbrev null : Float
-null = fin false 0 (pos 0)
-
--- 0 in any writing is 0 / 1
-nothing : (d : ℕ) → 0 * 1 * d ≡ 0
-nothing d = zero-mul d
-
-some : (m : ℕ) (e : ℤ) → 0 < suc m * up e * 1
-some m e = mul-pos (mul-pos (zero-lt-suc m) (up-pos e)) (zero-lt-suc 0)
-
-pub positive-of-lt : (x : Float) → lt null x ≡ true → lt x (inf false) ≡ true → T (positive x)
-unfolding lt
-positive-of-lt nan p q = absurd (false≢true p)
-positive-of-lt (inf true) p q = absurd (false≢true p)
-positive-of-lt (inf false) p q = absurd (false≢true q)
-positive-of-lt (fin true m e) p q = absurd (false≢true p)
-positive-of-lt (fin false m e) p q = lt→ltb 0 m (first-pos m (up e) (first-pos (m * up e) 1 (lt-of-le-of-lt zero-le (ltb-true (0 * 1 * down e) (m * up e * 1) p))))
+use Rattle.numeric.proofs.Comparisons.{holds, null, nothing, some}
 
 -- a zero of either sign equals 0
 level-zero : (s : Bool) (e : ℤ) → (eqb (0 * up e * 1) (0 * 1 * down e) && (Bool·beq s false || eqb (0 * up e * 1) 0)) ≡ true

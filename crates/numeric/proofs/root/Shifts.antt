@@ -1,21 +1,20 @@
 -- The bits of a root from the root of a shifted significand.
 use mathlib.Core.Path.{_≡_, sym, ap, _∙_, subst}
 use Prim.Native.Nat.{ℕ, zero, suc, _+_, _-_, _*_, _/_, _%_, _^_, _≤_, _<_}
-use native.Mathlib.Nat.{le-trans, le-of-eq, lt-of-lt-of-le, lt-of-le-of-lt, lt-of-not-le, not-le-of-lt, zero-add, mul-pos, mul-assoc, mul-mul-mul-comm, suc-mul, add-mul, mul-le-mul, mul-le-mul-left, mul-le-mul-right, mul-lt-mul-of-pos-right, div-lt-iff-lt-mul, div-eq-of-lt-le, mod-eq-of-lt}
+use native.Mathlib.Nat.{le-trans, le-of-eq, lt-of-lt-of-le, lt-of-le-of-lt, zero-add, mul-pos, mul-assoc, mul-mul-mul-comm, suc-mul, add-mul, mul-le-mul, mul-le-mul-left, mul-le-mul-right, mul-lt-mul-of-pos-right, div-lt-iff-lt-mul, div-eq-of-lt-le, mod-eq-of-lt}
 use native.Mathlib.Omega.{arith}
 use mathlib.Core.Bool.{true, false, not}
 use lib.Dec.{T, lit≤}
 use lib.Pow.{pow-pos, pow-add, pow-mono, shl-lt}
-use lib.Count.{leadingZeros, leading-top}
 use lib.Ieee.{Float, nan, inf, fin, binary32, fits, isNan, nanBits, toBits, ofBits}
 use lib.Ieee.Bits.{ofBits-toBits, nanBits-is}
-use lib.Ieee.Positive.{positive, positive-finite, value-pos, first-pos}
+use lib.Ieee.Positive.{positive, positive-finite}
 use Rattle.numeric.specs.Rounding.{steps}
 use Rattle.numeric.specs.Root.{root, square, sqrtOf}
 use Rattle.numeric.proofs.root.Whole.{root-is, root-lt, root-ge}
 use Rattle.numeric.proofs.root.Nearest.{kept, sqrt-steps, root-of}
 use Rattle.numeric.proofs.Signs.{finite-number}
-use Rattle.numeric.proofs.Steps.{Is, own-steps, bits-carried}
+use Rattle.numeric.proofs.Steps.{Is, bits-carried}
 
 -- ---- the root of a * p ^ 2 lies in the p numbers from root a * p on
 scaled-low : (a p : ℕ) → root a * p ≤ root (a * (p * p))
@@ -110,48 +109,11 @@ module _ (m e : ℕ) (m-low : 2 ^ 23 ≤ m) (m-high : m < 2 ^ 24) (e-low : 128 �
   pub quotient-lt : (g : ℕ) → 2 ^ 23 ≤ g → m * 2 ^ i % 2 ^ 64 / g < 2 ^ 27
   quotient-lt g h = div-lt-iff-lt-mul (lt-of-lt-of-le (pow-pos 23) h) .1 (rw shift-is (lt-of-lt-of-le shift-high (mul-le-mul-left (2 ^ 27) h)))
 
--- ---- x is m * 2 ^ k steps
-pub square-is : (x : Float) (m k : ℕ) → steps x ≡ m * 2 ^ k → square x ≡ m * 2 ^ (k + 151)
-square-is x m k h = ap (λ (z : ℕ). z * 2 ^ 151) h ∙ mul-assoc m (2 ^ k) (2 ^ 151) ∙ ap (λ (z : ℕ). m * z) (sym (pow-add 2 k 151))
+-- ---- the square of a number whose parts are M and k
+pub square-is : (x : Float) (M k : ℕ) → steps x * 2 ^ 23 ≡ M * 2 ^ k → square x ≡ M * 2 ^ (k + 128)
+square-is x M k h = sym (mul-assoc (steps x) (2 ^ 23) (2 ^ 128)) ∙ ap (λ (z : ℕ). z * 2 ^ 128) h ∙ mul-assoc M (2 ^ k) (2 ^ 128) ∙ ap (λ (z : ℕ). M * z) (sym (pow-add 2 k 128))
 
--- an m of fewer digits is moved up by z to have 24: m has j + 1 digits
-module _ (m : ℕ) (some : 0 < m) (short : m < 2 ^ 24) where
-  abbrev z : ℕ
-  z = leadingZeros 32 m - 8
-
-  top : (j : ℕ) × (leadingZeros 32 m + suc j ≡ 32) × (2 ^ j ≤ m) × (m < 2 ^ suc j)
-  top = leading-top 32 m some (lt-of-lt-of-le short (lit≤ tt))
-
-  few : top .0 < 24
-  few = lt-of-not-le λ (h : 24 ≤ top .0). not-le-of-lt (lt-of-le-of-lt (top .2) short) (pow-mono h)
-
-  pub leading-ge : 8 ≤ leadingZeros 32 m
-  leading-ge = omega (arith, few, top .1)
-
-  pub moved-le : z ≤ 23
-  moved-le = omega (arith, top .1)
-
-  pub moved-low : 2 ^ 23 ≤ m * 2 ^ z
-  moved-low = let e : 23 ≡ top .0 + z = omega (arith, few, top .1) in le-trans (le-of-eq (ap (λ (n : ℕ). 2 ^ n) e ∙ pow-add 2 (top .0) z)) (mul-le-mul-right (2 ^ z) (top .2))
-
-  pub moved-high : m * 2 ^ z < 2 ^ 24
-  moved-high = let e : suc (top .0) + z ≡ 24 = omega (arith, few, top .1) in lt-of-lt-of-le (shl-lt (suc (top .0)) z (top .3)) (le-of-eq (ap (λ (n : ℕ). 2 ^ n) e))
-
-  pub moved-is : m * 2 ^ z % 2 ^ 32 ≡ m * 2 ^ z
-  moved-is = mod-eq-of-lt (lt-of-lt-of-le moved-high (lit≤ tt))
-
-  pub square-moved : (k : ℕ) → m * 2 ^ (k + 151) ≡ m * 2 ^ z * 2 ^ (k + 151 - z)
-  square-moved k = let e : k + 151 ≡ z + (k + 151 - z) = omega (arith, moved-le) in ap (λ (n : ℕ). m * 2 ^ n) e ∙ ap (λ (n : ℕ). m * n) (pow-add 2 z (k + 151 - z)) ∙ sym (mul-assoc m (2 ^ z) (2 ^ (k + 151 - z)))
-
--- ---- what the code reads: digits above 0, and the root from its bits
-pub digits-pos : (x : Float) (m k : ℕ) → T (fits binary32 x) → T (positive x) → steps x ≡ m * 2 ^ k → 0 < m
-digits-pos nan m k f p h = absurd p
-digits-pos (inf s) m k f p h = absurd p
-digits-pos (fin true n e) m k f p h = absurd p
-digits-pos (fin false n e) m k f p h =
-    let x = fin false n e in
-    first-pos m (2 ^ k) (value-pos x (m * 2 ^ k) (2 ^ 149) p (pow-pos 149) (subst (Is x false) h (own-steps false n e f)))
-
+-- ---- what the code reads: the root from its bits
 positive-no-nan : (x : Float) → T (positive x) → T (not (isNan x))
 positive-no-nan x p = finite-number x (positive-finite x p)
 

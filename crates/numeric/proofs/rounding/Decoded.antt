@@ -11,10 +11,17 @@ use lib.Pow.{pow-pos}
 use lib.Ieee.{Float, nan, inf, fin, binary32, fits, toBits}
 use lib.Ieee.Bits.{toBits-lt}
 use lib.Ieee.Scale.{finite}
-use Rattle.numeric.specs.Inner.{Stepped}
+use Rattle.numeric.specs.Rounding.{steps}
 use Rattle.numeric.proofs.Steps.{steps-are, Kept, on-grid, bits-are}
 use Rattle.numeric.proofs.Signs.{finite-number}
 use Rattle.numeric.proofs.float.SignBit.{bit-set}
+
+-- x is m * 2 ^ k steps in size, with 24 digits in m, or fewer where k is 0
+pub record Stepped (x : Float) (m k : ℕ) : Type 0 where
+  pub whole : steps x ≡ m * 2 ^ k
+  pub short : m < 2 ^ 24
+  pub full : (k ≡ 0) ⊎ (2 ^ 23 ≤ m)
+  pub few : k < 2 ^ 8
 
 fields : (q k b : ℕ) → Kept q k → b ≡ k * 2 ^ 23 + q → (k ≡ b / 2 ^ 23 - 1) × (q ≡ b - k * 2 ^ 23)
 fields q k b h e = go (h .1)

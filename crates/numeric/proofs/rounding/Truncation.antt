@@ -12,9 +12,9 @@ use lib.Ieee.Nearest.{div-same, div-mono}
 use lib.Ieee.Positive.{positive, le→cross}
 use lib.Ieee.Scale.{finite}
 use Rattle.numeric.specs.Rounding.{truncated, steps}
-use Rattle.numeric.specs.Inner.{Stepped}
 use Rattle.numeric.proofs.Comparisons.{AtMost}
 use Rattle.numeric.proofs.Steps.{own-steps}
+use Rattle.numeric.proofs.rounding.Decoded.{Stepped}
 
 -- ---- by the steps of x, as the code finds it
 truncated-steps : (k : ℕ) (x : Float) → T (fits binary32 x) → T (finite x) → truncated k x ≡ steps x * 2 ^ k / 2 ^ 149

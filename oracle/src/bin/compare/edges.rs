@@ -1,4 +1,5 @@
-//! The elementary functions' edges that document 01 states: its own numbers, held against the oracle and against the proved library.
+//! The elementary functions' edges that document 01 states, and the ends of the subnormal numbers, which document 02's card 3 gave
+//! the logarithms: these numbers, held against the oracle and against the proved library.
 use oracle::leaf::{by_rules, Leaf};
 use oracle::report::Comparison;
 use oracle::service;
@@ -6,7 +7,7 @@ use oracle::service;
 const NAN: u32 = 0x7fc0_0000;
 
 /// Function, argument, answer, all but the arguments as bits. Numbers from 7 on name no function.
-const LEAVES: [(u32, f32, u32); 14] = [
+const LEAVES: [(u32, f32, u32); 20] = [
     (1, 0.0, 0x3f80_0000),
     (0, -0.0, 0x8000_0000),
     (0, 0.0, 0),
@@ -16,6 +17,12 @@ const LEAVES: [(u32, f32, u32); 14] = [
     (3, 1.0, 0),
     (2, 1.0, 0),
     (3, f32::INFINITY, NAN),
+    (3, f32::from_bits(1), 0xc233_69f3),
+    (2, f32::from_bits(1), 0xc2ce_8ed0),
+    (3, f32::from_bits(0x7f_ffff), 0xc217_b818),
+    (2, f32::from_bits(0x7f_ffff), 0xc2ae_ac50),
+    (3, 0.0, NAN),
+    (2, -1e-45, NAN),
     (6, 4.0, 0x4000_0000),
     (6, -0.0, 0x8000_0000),
     (6, -1.0, NAN),
