@@ -42,6 +42,7 @@ enum hf_refusal {
   HF_REFUSAL_ROW = 12,      /* a row of a band book, or a kHz outside its span */
   HF_REFUSAL_GAP = 13,      /* a kHz that no row covers */
   HF_REFUSAL_OVERLAP = 14,  /* a kHz that several rows cover */
+  HF_REFUSAL_TABLE = 15,    /* a table whose sum isn't the antenna record's */
   HF_REFUSAL_CALL = 16,     /* the board: an id that isn't one, joining while on, leaving while off */
   HF_REFUSAL_FULL = 17      /* the board: sixteen are on */
 };
@@ -61,7 +62,7 @@ enum hf_kind { HF_LEVEL = 0, HF_FLOOR = 1, HF_SILENCE = 2, HF_REFUSED = 3, HF_RE
 enum hf_size {
   HF_PARM = 20,           /* floats: an antenna's parameters, by docs/STATION.md */
   HF_TABLE = 11284,       /* floats: set-up's table, at least */
-  HF_ANTENNA = 997,       /* words: the antenna record that set-up leaves */
+  HF_ANTENNA = 998,       /* words: the antenna record that set-up leaves */
   HF_FOUND = 4,           /* words: what the search found */
   HF_ROW = 360,           /* floats: a plate row, azimuths 0 to 359 */
   HF_MAXGAIN_FLOATS = 58, /* parm, gainmax (2 rows of 3), gainmaxb (30), operating MHz, design MHz */
@@ -108,22 +109,25 @@ uint32_t hf_gains(const float *parm, size_t parm_len, float giso, const float *d
                   size_t out_len);
 
 /* Sets up the antenna once, for hf_gain and hf_plate_row: fills the lent table (at least HF_TABLE floats; those past them stay) and
- * the lent antenna record (HF_ANTENNA words). out, HF_FOUND words: the search's readings, at most 141, and the bits of the peak, its
- * elevation and azimuth; a peak of 0 is a silent antenna. Returns 0 or the refusal (2, 3, 5, 6, 7, 8, 9); 8 first where parm, antenna
- * or out hasn't its size. */
+ * the lent antenna record (HF_ANTENNA words; the last is the sum of the table's HF_TABLE floats by their bits, modulo 2^32). out,
+ * HF_FOUND words: the search's readings, at most 141, and the bits of the peak, its elevation and azimuth; a peak of 0 is a silent
+ * antenna. Returns 0 or the refusal (2, 3, 5, 6, 7, 8, 9); 8 first where parm, antenna or out hasn't its size. */
 uint32_t hf_setup(const float *parm, size_t parm_len, float *table, size_t table_len, uint32_t *antenna, size_t antenna_len,
                   uint32_t *out, size_t out_len);
 
 /* The gain at an elevation and an azimuth, of an antenna record and its table; giso is the maximum gain. Any words are answered or
- * refused; that the table is this record's isn't noticed. Returns an hf_kind and the bits of the gain in dBi, or the refusal (2, 3, 6,
- * 8, 10; 8 first where antenna isn't HF_ANTENNA). */
+ * refused. A table whose sum isn't the record's is refused as 15, before 10. Only the sum is compared: changes of several floats that
+ * cancel in it aren't noticed, nor is another antenna's table with the same sum (types 1 to 4 and 7 to 9 leave all floats 0, and read
+ * none of them). Returns an hf_kind and the bits of the gain in dBi, or the refusal (2, 3, 6, 8, 15, 10; 8 first where antenna isn't
+ * HF_ANTENNA). */
 uint64_t hf_gain(const uint32_t *antenna, size_t antenna_len, const float *table, size_t table_len, float elevation, float azimuth,
                  float giso);
 
 /* Writes the gains of azimuths 0 to 359 at a whole elevation 0 to 90 into row (HF_ROW floats), of an antenna record and its table. Of
  * what kind they are: all HF_SILENCE where the record's peak (hf_setup's out) is 0; else HF_FLOOR where the number is -30 and
  * HF_LEVEL where it is more. Returns kind 0 and the bits of front-to-back, the gain at 0 less the greatest at 90 to 270; or HF_REFUSED
- * and the refusal (2, 3, 6, 7, 8, 10; 8 first where antenna isn't HF_ANTENNA), with the row as it was. */
+ * and the refusal (2, 3, 6, 7, 8, 15, 10, in this order; 8 first where antenna isn't HF_ANTENNA), with the row as it was; the table's
+ * sum is compared as by hf_gain. */
 uint64_t hf_plate_row(const uint32_t *antenna, size_t antenna_len, const float *table, size_t table_len, float elevation, float giso,
                       float *row, size_t row_len);
 

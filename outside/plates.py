@@ -3,7 +3,7 @@ import ctypes
 import struct
 from ctypes import c_float, c_size_t, c_uint8, c_uint32, c_uint64
 
-PARM, TABLE, ROW, ANTENNA, FOUND, RECORD, STATION, MAXGAIN_OUT = 20, 11284, 360, 997, 4, 225, 57, 21  # the sizes of hf.h
+PARM, TABLE, ROW, ANTENNA, FOUND, RECORD, STATION, MAXGAIN_OUT = 20, 11284, 360, 998, 4, 225, 57, 21  # the sizes of hf.h
 REFUSED = 3
 BYTES, FLOATS, WORDS = ((ctypes.POINTER(kind), c_size_t) for kind in (c_uint8, c_float, c_uint32))
 

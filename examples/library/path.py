@@ -6,7 +6,7 @@ import struct
 import sys
 from ctypes import c_float, c_size_t, c_uint32, c_uint64
 
-PARM, TABLE, ROW, ANTENNA, FOUND = 20, 11284, 360, 997, 4  # the sizes of hf.h
+PARM, TABLE, ROW, ANTENNA, FOUND = 20, 11284, 360, 998, 4  # the sizes of hf.h
 LEVEL, FLOOR, SILENCE, REFUSED, REFUSED_AT = range(5)
 KINDS = ["level", "floor", "silence"]
 FLOATS, WORDS = (ctypes.POINTER(c_float), c_size_t), (ctypes.POINTER(c_uint32), c_size_t)

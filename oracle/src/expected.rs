@@ -2,6 +2,7 @@
 use super::source::antenna::AntennaFile;
 use super::source::ccir::{antinit2, curtain, setmaxgain, CcirAntenna};
 use super::source::{take_factor, take_pattern_readings, take_readings};
+use crate::antennas::SUM;
 
 pub type Refusal = u32;
 pub type Parm = [f32; 20];
@@ -19,6 +20,8 @@ const AIM: Refusal = 7;
 pub const SPACE: Refusal = 8;
 const PATTERN: Refusal = 9;
 const LEVEL: Refusal = 10;
+/// Card 9 of document 02: tried after 8 and before 10.
+const TABLE_DIFFERS: Refusal = 15;
 
 fn refuse_if(condition: bool, number: Refusal) -> Result<(), Refusal> {
     if condition {
@@ -167,7 +170,10 @@ impl Antenna {
 
     /// The antenna record's words.
     pub fn record(&self) -> Vec<u32> {
-        self.record.words()
+        let (mut words, mut table) = (self.record.words(), vec![0.0; TABLE]);
+        self.record.copy_table(&mut table);
+        words.push(table_sum(&table));
+        words
     }
 
     /// Writes the first 11,284 floats of a lent table.
@@ -274,7 +280,18 @@ fn counts_refused(words: &[u32]) -> bool {
     outside(dipoles, 0.0, 64.0) || outside(stacks, 0.0, 64.0) || nat > 30 || iek[1..=nat].iter().any(|i| !(1..=30).contains(i))
 }
 
-/// What gain and row ask of an antenna record in 997 words, whoever made them.
+/// Card 9 of document 02: "the wrapping 32-bit sum of the bit patterns of all 11,284 table floats, any NaN counted as 7FC00000".
+pub fn table_sum(table: &[f32]) -> u32 {
+    let word = |x: &f32| if x.is_nan() { 0x7FC0_0000 } else { x.to_bits() };
+    table[..TABLE].iter().map(word).fold(0, u32::wrapping_add)
+}
+
+/// Another sum than set-up's, which stands in the record's last word.
+fn table_refused(words: &[u32], table: &[f32]) -> Result<(), Refusal> {
+    refuse_if(table_sum(table) != words[SUM], TABLE_DIFFERS)
+}
+
+/// What gain and row ask of an antenna record in 998 words, whoever made them.
 fn record_refused(words: &[u32]) -> Result<(), Refusal> {
     refuse_if(!(1..=9).contains(&words[0]), TYPE)?;
     refuse_if(counts_refused(words), COUNT)
@@ -284,11 +301,12 @@ fn try_kept_gain(words: &[u32], table: &[f32], [elevation, azimuth, giso]: [f32;
     refuse_if(any_not_finite(&[elevation, azimuth, giso]), VALUE)?;
     record_refused(words)?;
     refuse_if(table.len() < TABLE, SPACE)?;
+    table_refused(words, table)?;
     let record = CcirAntenna::of_words(words, table);
     Ok(graded(&record, record.ccirgain(elevation, azimuth, giso)))
 }
 
-/// `ccirgain`, of an antenna record in 997 words and a table.
+/// `ccirgain`, of an antenna record in 998 words and a table.
 pub fn kept_gain(words: &[u32], table: &[f32], asked: [f32; 3]) -> Gain {
     try_kept_gain(words, table, asked).unwrap_or_else(Gain::Refused)
 }
@@ -320,11 +338,12 @@ pub fn row(antenna: &Antenna, elevation: f32, giso: f32) -> Result<([f32; ROW], 
     numbers(&antenna.record, elevation, giso)
 }
 
-/// The plate row of an antenna record in 997 words and a table, into `room` floats.
+/// The plate row of an antenna record in 998 words and a table, into `room` floats.
 pub fn kept_row(words: &[u32], table: &[f32], elevation: f32, giso: f32, room: usize) -> Result<([f32; ROW], f32), Refusal> {
     refuse_if(any_not_finite(&[elevation, giso]), VALUE)?;
     record_refused(words)?;
     refuse_if(elevation_refused(elevation), AIM)?;
     refuse_if(table.len() < TABLE || room != ROW, SPACE)?;
+    table_refused(words, table)?;
     numbers(&CcirAntenna::of_words(words, table), elevation, giso)
 }

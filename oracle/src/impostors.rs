@@ -1,7 +1,7 @@
-//! Plausible and false: the wrong programs that document 01 names ("Plausible and false", "Before a test is written"), and its
-//! logarithm of normal numbers alone, which document 02's card 3 replaces; each an edit of the source's text or of the oracle's over
-//! it. Stored cases named after an impostor show it; `compare impostors` holds that each of them does. build.rs mounts this file too
-//! and puts a switch at each place.
+//! Plausible and false: the wrong programs that document 01 names ("Plausible and false", "Before a test is written"), its logarithm
+//! of normal numbers alone, which document 02's card 3 replaces, and some of document 02's cards; each an edit of the source's text or
+//! of the oracle's over it. Stored cases named after an impostor show it; `compare impostors` holds that each of them does. build.rs
+//! mounts this file too and puts a switch at each place.
 
 pub struct Impostor {
     pub name: &'static str,
@@ -16,6 +16,8 @@ pub struct Impostor {
 
 /// Of the antennas' module, seen in the answers of `hf_gains`.
 const SOURCE: Impostor = Impostor { name: "", call: "gains", file: "ccir.rs", after: "", old: "", new: "" };
+/// Of the table's sum, document 02's card 9.
+const SUM: Impostor = Impostor { name: "", call: "gain", file: "expected.rs", after: "fn table_sum", old: "TABLE", new: "" };
 const CURTAIN: Impostor = Impostor { call: "curtain", after: "pub mod curtain", ..SOURCE };
 
 pub const IMPOSTORS: &[Impostor] = &[
@@ -67,6 +69,9 @@ pub const IMPOSTORS: &[Impostor] = &[
         old: "self.record.copy_table(table);",
         new: "table[..TABLE].fill(0.0);",
     },
+    Impostor { name: "a sum that skips the last float", new: "11_283", ..SUM },
+    Impostor { name: "ww1 and ww2 alone summed", new: "5_642", ..SUM },
+    Impostor { name: "a NaN summed by its own bits", old: "x.is_nan()", new: "false", ..SUM },
     Impostor { name: "type 0.49999997 is 0", file: "source.rs", after: "fn jant", old: "v + 0.5", new: "v.round()", ..SOURCE },
     Impostor { name: "nint(0.49999997) is 0", old: "(v + 0.5) as i32", new: "v.round() as i32", ..CURTAIN },
     Impostor {

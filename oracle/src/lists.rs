@@ -231,13 +231,19 @@ fn setup(random: &mut Random, k: u64) -> Vec<Value> {
 
 /// A station, and in half of the cases a word of its record changed; a table or a record of another length now and then.
 fn kept_antenna(random: &mut Random, k: u64) -> (Vec<f32>, Vec<u32>, [usize; 2]) {
-    let (parm, change) = (station(random)[..20].to_vec(), records::change(random));
+    let (parm, change, floats) = (station(random)[..20].to_vec(), records::change(random), records::table_change(random));
     let lengths = match k % 30 {
         28 => [random.pick(&[0, 2821, TABLE - 1, TABLE + 1]), ANTENNA],
         29 => [TABLE, random.pick(&[0, ANTENNA - 1, ANTENNA + 1])],
         _ => [TABLE, ANTENNA],
     };
-    (parm, if k % 2 == 0 { Vec::new() } else { change.to_vec() }, lengths)
+    let changes = match k % 4 {
+        0 => Vec::new(),
+        1 => floats,
+        2 if k % 8 == 2 => Vec::new(),
+        _ => change.to_vec(),
+    };
+    (parm, changes, lengths)
 }
 
 fn gain(random: &mut Random, k: u64) -> Vec<Value> {

@@ -1,5 +1,5 @@
-//! Antenna records to try: those that set-up leaves with a word changed, and made-up ones.
-use crate::antennas::ANTENNA;
+//! Antenna records to try: those that set-up leaves with a word changed, and made-up ones; and changes of their tables.
+use crate::antennas::{ANTENNA, OF_TABLE, SUM};
 use crate::random::Random;
 use crate::stations;
 
@@ -30,6 +30,30 @@ pub fn change(random: &mut Random) -> [u32; 2] {
         _ => random.below(ANTENNA as u64) as usize,
     };
     [place as u32, word(random, place)]
+}
+
+/// Floats of a table to change: the ends of its four parts, or any.
+pub fn table_place(random: &mut Random) -> usize {
+    match random.below(2) {
+        0 => random.pick(&[0, 2820, 2821, 5641, 5642, 8462, 8463, 11_283]),
+        _ => random.below(11_284) as usize,
+    }
+}
+
+/// The bits of a NaN, of either sign, quiet or signalling.
+pub fn nan(random: &mut Random) -> u32 {
+    random.bits() & 0x8000_0000 | 0x7F80_0000 | 1 + random.below(0x7F_FFFF) as u32
+}
+
+/// Changes of a table that all but types 5 and 6 leave at 0: one float; two, with the sum as it was; a NaN, with its sum.
+pub fn table_change(random: &mut Random) -> Vec<u32> {
+    let [here, there] = [(); 2].map(|()| (OF_TABLE + table_place(random)) as u32);
+    let word = random.between(-2.0, 2.0).to_bits();
+    match random.below(3) {
+        0 => vec![here, word],
+        1 => vec![here, word, there, word.wrapping_neg()],
+        _ => vec![here, nan(random), SUM as u32, 0x7FC0_0000],
+    }
 }
 
 /// A record of plausible fields that no set-up left, its counts mostly legal.

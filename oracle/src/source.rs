@@ -123,7 +123,7 @@ pub mod ccir {
             }
         }
 
-        /// The record without its table, as 997 words in the order of the fields; of `ifs` only whether it isn't 0.
+        /// The record without its table and the table's sum, as 997 words in the order of the fields; of `ifs` only whether it isn't 0.
         pub fn words(&self) -> Vec<u32> {
             let constants = [
                 self.d1, self.e1, self.beta, self.cpfr, self.cp11, self.fr1, self.h1, self.pfr, self.p11, self.p11s, self.q2,
@@ -142,7 +142,7 @@ pub mod ccir {
             .concat()
         }
 
-        /// The record in 997 words, with the table's floats.
+        /// The record in its first 997 words, with the table's floats.
         pub fn of_words(words: &[u32], table: &[R]) -> Self {
             let mut words = words.iter().copied();
             let mut word = || words.next().expect("997 words");

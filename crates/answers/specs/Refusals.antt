@@ -47,6 +47,10 @@ GAP = 13
 abbrev pub OVERLAP : ℕ
 OVERLAP = 14
 
+-- a table that isn't the antenna record's
+abbrev pub TABLE : ℕ
+TABLE = 15
+
 -- a call on the board that can't be: no such id, already on, or not on
 abbrev pub CALL : ℕ
 CALL = 16

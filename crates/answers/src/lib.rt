@@ -33,6 +33,9 @@ pub const GAP: u8 = 13;
 
 pub const OVERLAP: u8 = 14;
 
+// A table that isn't the antenna record's.
+pub const TABLE: u8 = 15;
+
 // A call on the board that can't be: no such id, already on, or not on.
 pub const CALL: u8 = 16;
 

@@ -24,6 +24,7 @@ pub record Granted (m : Model) (size : ℕ) (q : Asked) : Type 0 where
   pub aim : q .aim ≡ true
   pub table : tableSize ≤ size
   pub space : q .space ≡ true
+  pub own : q .own ≡ true
 
 pub granted : (m : Model) (size : ℕ) (q : Asked) → askedRefusal m size q ≡ 0 → Granted m size q
 unfolding askedRefusal
@@ -32,7 +33,8 @@ granted m size q h =
     let t = next (not (typeOk (m .iant))) _ _ (v .1) in
     let k = next (not (countsOk m)) _ _ (t .1) in
     let a = next (not (q .aim)) _ _ (k .1) in
-    let s = neither (ltb size tableSize) (not (q .space)) (next _ _ _ (a .1) .0) in
+    let r = next (ltb size tableSize || not (q .space)) _ _ (a .1) in
+    let s = neither (ltb size tableSize) (not (q .space)) (r .0) in
     record {
       values = not-false (q .values) (v .0);
       type = not-false _ (t .0);
@@ -40,8 +42,9 @@ granted m size q h =
       aim = not-false (q .aim) (a .0);
       table = ltb-false size tableSize (s .0);
       space = not-false (q .space) (s .1);
+      own = not-false (q .own) (next (not (q .own)) _ _ (r .1) .0);
     }
 
 pub none-refused : (m : Model) (size : ℕ) (q : Asked) → Granted m size q → askedRefusal m size q ≡ 0
 unfolding askedRefusal
-none-refused m size q g = simp (g .values, g .type, g .counts, g .aim, le-ltb size tableSize (g .table), g .space)
+none-refused m size q g = simp (g .values, g .type, g .counts, g .aim, le-ltb size tableSize (g .table), g .space, g .own)

@@ -4,6 +4,7 @@ pub mod Edges
 pub mod Mirror
 pub mod CrossedMirror
 mod CrossedTables
+mod TableSum
 mod NoNumber
 mod Strict
 pub mod Greatest

@@ -16,10 +16,12 @@ use Rattle.ground.specs.Table.{tableOf}
 use Rattle.answers.specs.Outcome.{accepted}
 use Rattle.answers.proofs.Outcome.{passed, same}
 use Rattle.model.specs.Limits.{slot}
+use Rattle.model.specs.declared.record.Model.{Model}
 use Rattle.antenna.specs.Asked.{askedRefusal}
 use Rattle.antenna.specs.Limits.{startOf, refusalOf}
 use Rattle.antenna.specs.Search.{gainormOf}
 use Rattle.antenna.specs.SetUp.{modelOf, searchRefused, acceptedOf, found, searched, setUpOf}
+use Rattle.antenna.specs.TableSum.{tableSum, ownTable}
 use Rattle.antenna.specs.Gain.{Kind, graded, numberAt, gainAsked, gainOf}
 use Rattle.antenna.specs.Row.{numbersOf, frontToBack, measured, rowAsked, rowOf}
 use Rattle.antenna.specs.declared.record.Antenna.{Antenna}
@@ -53,6 +55,12 @@ module _ (p : List Float) (size : ℕ) where
   unfolding acceptedOf
   accepted-model {a} {n} h = ap (λ (w : Antenna × ℕ). w .0 .model) (same (sym h ∙ accepted-when (accepted-only-when h)))
 
+  -- the sum in the record is that of its table
+  pub accepted-sum : {a : Antenna} {n : ℕ} → setUpOf p size ≡ accepted (a, n) → a .sum ≡ tableSum (tableOf (a .model))
+  unfolding acceptedOf
+  accepted-sum h =
+      ap (λ (w : Antenna × ℕ). w .0 .sum) (same (sym h ∙ accepted-when (accepted-only-when h))) ∙ ap (λ (m : Model). tableSum (tableOf m)) (sym (accepted-model h))
+
   pub accepted-readings : {a : Antenna} {n : ℕ} → setUpOf p size ≡ accepted (a, n) → n ≡ searchOf .tally .readings
   unfolding acceptedOf
   accepted-readings h = ap (λ (w : Antenna × ℕ). w .1) (same (sym h ∙ accepted-when (accepted-only-when h)))
@@ -63,7 +71,7 @@ pub accepted-gain-finite : (a : Antenna) (t : List Float) (u v giso : Float) {k 
 unfolding gainOf graded
 accepted-gain-finite a t u v giso {k} {g} h =
     let n = numberAt (a .model) (a .peak .z6) t u v giso in
-    let asked = passed (ltb 0 (askedRefusal (a .model) (length t) (gainAsked u v giso))) _ _ h .1 in
+    let asked = passed (ltb 0 (askedRefusal (a .model) (length t) (gainAsked (ownTable a t) u v giso))) _ _ h .1 in
     let s = passed (not (finite n)) _ _ asked in
     rw (ap (λ (w : Kind × Float). w .1) (same (s .1))) at (not-false (finite n) (s .0))
 
@@ -72,7 +80,7 @@ pub accepted-row-finite : (a : Antenna) (t : List Float) (u giso : Float) (size 
 unfolding rowOf measured
 accepted-row-finite a t u giso size {x} h =
     let row = numbersOf a t u giso in
-    let m = passed (ltb 0 (askedRefusal (a .model) (length t) (rowAsked u giso size))) _ _ h .1 in
+    let m = passed (ltb 0 (askedRefusal (a .model) (length t) (rowAsked (ownTable a t) u giso size))) _ _ h .1 in
     let s = passed (not (allFinite row && finite (frontToBack row))) _ _ m in
     let f = both (allFinite row) (finite (frontToBack row)) (not-false _ (s .0)) in
     (f .0, rw (same (s .1)) at (f .1))
@@ -81,5 +89,5 @@ pub accepted-row-is : (a : Antenna) (t : List Float) (u giso : Float) (size : �
 unfolding rowOf measured
 accepted-row-is a t u giso size h =
     let row = numbersOf a t u giso in
-    let m = passed (ltb 0 (askedRefusal (a .model) (length t) (rowAsked u giso size))) _ _ h .1 in
+    let m = passed (ltb 0 (askedRefusal (a .model) (length t) (rowAsked (ownTable a t) u giso size))) _ _ h .1 in
     sym (same (passed (not (allFinite row && finite (frontToBack row))) _ _ m .1))

@@ -16,6 +16,7 @@ use Rattle.answers.proofs.Outcome.{passed}
 use Rattle.floats.proofs.Tests.{both, finite-at}
 use Rattle.floats.proofs.Filled.{filled-length, filled-at}
 use Rattle.antenna.specs.Asked.{askedRefusal}
+use Rattle.antenna.specs.TableSum.{ownTable}
 use Rattle.antenna.specs.Gain.{kindOf, graded, numberAt, gainAsked, gainOf}
 use Rattle.antenna.specs.Row.{numbersOf, rowAsked, rowOf}
 use Rattle.antenna.specs.declared.record.Antenna.{Antenna}
@@ -42,14 +43,14 @@ module _ (a : Antenna) (t : List Float) (u giso : Float) where
   row-number v h = filled-at at-azimuth 360 360 v (omega arith) h
 
   module _ {x : Float} (h : rowOf a t u giso 360 ≡ accepted x) where
-    limits : Granted (a .model) (length t) (rowAsked u giso 360)
+    limits : Granted (a .model) (length t) (rowAsked (ownTable a t) u giso 360)
     unfolding rowOf
     limits =
-        let number = askedRefusal (a .model) (length t) (rowAsked u giso 360) in
+        let number = askedRefusal (a .model) (length t) (rowAsked (ownTable a t) u giso 360) in
         let none = ltb-false 0 number (passed (ltb 0 number) _ _ h .0) in
-        granted (a .model) (length t) (rowAsked u giso 360) (omega (arith, none))
+        granted (a .model) (length t) (rowAsked (ownTable a t) u giso 360) (omega (arith, none))
 
-    gain-limits : (v : ℕ) → v < 360 → Granted (a .model) (length t) (gainAsked u (count v) giso)
+    gain-limits : (v : ℕ) → v < 360 → Granted (a .model) (length t) (gainAsked (ownTable a t) u (count v) giso)
     unfolding rowAsked gainAsked
     gain-limits v i =
         let values = both (finite u) (finite giso) (limits .values) in
@@ -60,6 +61,7 @@ module _ (a : Antenna) (t : List Float) (u giso : Float) where
           aim = refl;
           table = limits .table;
           space = refl;
+          own = limits .own;
         }
 
     pub number-finite : (v : ℕ) → v < 360 → finite (at-azimuth v) ≡ true

@@ -1,8 +1,8 @@
--- Document 01, "Answers": why gain and row refuse before any number is computed. Definitions only.
+-- Document 01, "Answers", and document 02, card 9: why gain and row refuse before any number is computed. Definitions only.
 use Prim.Native.Nat.{ℕ}
 use mathlib.Core.Bool.{cond, not, _||_}
 use lib.Dec.{ltb}
-use Rattle.answers.specs.Refusals.{VALUE, TYPE, COUNT, AIM, SPACE}
+use Rattle.answers.specs.Refusals.{VALUE, TYPE, COUNT, AIM, SPACE, TABLE}
 use Rattle.model.specs.Counts.{countsOk}
 use Rattle.model.specs.Table.{tableSize}
 use Rattle.model.specs.Types.{typeOk}
@@ -16,4 +16,5 @@ askedRefusal m size q =
     (cond (not (typeOk (m .iant))) TYPE
     (cond (not (countsOk m)) COUNT
     (cond (not (q .aim)) AIM
-    (cond (ltb size tableSize || not (q .space)) SPACE 0))))
+    (cond (ltb size tableSize || not (q .space)) SPACE
+    (cond (not (q .own)) TABLE 0)))))

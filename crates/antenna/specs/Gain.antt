@@ -1,5 +1,5 @@
--- Document 01, part 7 and "Answers": `ccirgain`, the gain at a direction with its kind, and its refusals. Definitions only.
-use mathlib.Core.Bool.{true, cond, not, _&&_}
+-- Document 01, part 7 and "Answers": `ccirgain`, the gain at a direction with its kind, and its refusals, 15 of document 02 among them. Definitions only.
+use mathlib.Core.Bool.{Bool, true, cond, not, _&&_}
 use mathlib.Core.List.{List}
 use lib.ListN.{length}
 use lib.Dec.{ltb}
@@ -13,6 +13,7 @@ use Rattle.pattern.specs.Gainrel.{gainRel}
 use Rattle.answers.specs.Outcome.{Outcome, refused, accepted}
 use Rattle.answers.specs.Refusals.{LEVEL}
 use Rattle.antenna.specs.Literals.{floorRatio}
+use Rattle.antenna.specs.TableSum.{ownTable}
 use Rattle.antenna.specs.Asked.{askedRefusal}
 use Rattle.antenna.specs.declared.asked.Asked.{Asked}
 use Rattle.antenna.specs.declared.record.Antenna.{Antenna}
@@ -53,13 +54,13 @@ unfoldable pub numberAt : Model → Float → List Float → Float → Float →
 numberAt m z6 t u v giso = decibelsOf (gainRel m t u v) z6 giso
 
 -- what a gain asks: its elevation is any, and it needs no space
-unfoldable pub gainAsked : Float → Float → Float → Asked
-gainAsked u v giso = record { values = finite u && finite v && finite giso; aim = true; space = true }
+unfoldable pub gainAsked : Bool → Float → Float → Float → Asked
+gainAsked own u v giso = record { values = finite u && finite v && finite giso; aim = true; space = true; own = own }
 
 -- `ccirgain`
 unfoldable pub gainOf : Antenna → List Float → Float → Float → Float → Outcome (Kind × Float)
 gainOf a t u v giso =
-    let number = askedRefusal (a .model) (length t) (gainAsked u v giso) in
+    let number = askedRefusal (a .model) (length t) (gainAsked (ownTable a t) u v giso) in
     cond (ltb 0 number) (refused number) (graded (a .peak .z6) (numberAt (a .model) (a .peak .z6) t u v giso))
 
 -- what each case of the answer says

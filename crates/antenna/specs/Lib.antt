@@ -1,11 +1,12 @@
--- The definitions that contracts cite: one file for each subject. All are document 01's or the source's own; `Search` has in
--- addition a name for each step of its passes.
+-- The definitions that contracts cite: one file for each subject. All are document 01's or the source's own, but for
+-- `TableSum`, which is document 02's; `Search` has in addition a name for each step of its passes.
 pub mod Literals
 pub mod Whole
 pub mod Search
 pub mod Limits
 pub mod Why
 pub mod TypeConstants
+pub mod TableSum
 pub mod SetUp
 pub mod Asked
 pub mod Gain

@@ -1,4 +1,4 @@
--- Document 01, part 9: the plate row, with its refusals; front-to-back as document 02's card 6 has it. Definitions only.
+-- Document 01, part 9: the plate row, with its refusals; front-to-back and refusal 15 as document 02's cards 6 and 9 have them. Definitions only.
 use Prim.Native.Nat.{ℕ, zero, suc, _+_, _-_}
 use mathlib.Core.Bool.{Bool, cond, not, _&&_}
 use mathlib.Core.List.{List}
@@ -14,6 +14,7 @@ use Rattle.model.specs.declared.record.Model.{Model}
 use Rattle.answers.specs.Outcome.{Outcome, refused, accepted}
 use Rattle.answers.specs.Refusals.{LEVEL}
 use Rattle.antenna.specs.Whole.{wholeOf}
+use Rattle.antenna.specs.TableSum.{ownTable}
 use Rattle.antenna.specs.Asked.{askedRefusal}
 use Rattle.antenna.specs.Gain.{numberAt}
 use Rattle.antenna.specs.declared.record.Antenna.{Antenna}
@@ -54,13 +55,13 @@ unfoldable pub measured : List Float → Outcome Float
 measured row = cond (not (allFinite row && finite (frontToBack row))) (refused LEVEL) (accepted (frontToBack row))
 
 -- what a row asks, with n floats lent for it
-unfoldable pub rowAsked : Float → Float → ℕ → Asked
-rowAsked u giso n = record { values = finite u && finite giso; aim = elevationOk u; space = eqb n 360 }
+unfoldable pub rowAsked : Bool → Float → Float → ℕ → Asked
+rowAsked own u giso n = record { values = finite u && finite giso; aim = elevationOk u; space = eqb n 360; own = own }
 
 -- the row at elevation u, with n floats lent for it
 unfoldable pub rowOf : Antenna → List Float → Float → Float → ℕ → Outcome Float
 rowOf a t u giso n =
-    let number = askedRefusal (a .model) (length t) (rowAsked u giso n) in
+    let number = askedRefusal (a .model) (length t) (rowAsked (ownTable a t) u giso n) in
     cond (ltb 0 number) (refused number) (measured (numbersOf a t u giso))
 
 -- what each case of the answer says

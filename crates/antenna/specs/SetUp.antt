@@ -1,4 +1,4 @@
--- Document 01, part 7: `antinit2`, set-up from the twenty parameters, with its refusals. Definitions only.
+-- Document 01, part 7: `antinit2`, set-up from the twenty parameters, with its refusals; the table's sum is document 02's card 9. Definitions only.
 use Prim.Native.Nat.{ℕ}
 use mathlib.Core.Bool.{Bool, false, cond, not, _&&_}
 use mathlib.Core.List.{List}
@@ -24,6 +24,7 @@ use Rattle.model.specs.Limits.{slot}
 use Rattle.antenna.specs.Limits.{nelOf, startOf, refusalOf}
 use Rattle.antenna.specs.TypeConstants.{rlambdaOf, betaOf, waveConstants, constantsOf}
 use Rattle.antenna.specs.Search.{gainormOf}
+use Rattle.antenna.specs.TableSum.{tableSum}
 use Rattle.antenna.specs.declared.record.Antenna.{Antenna}
 use Rattle.antenna.specs.declared.search.Search.{Search}
 use Rattle.antenna.specs.declared.setup.Prepared.{Prepared}
@@ -68,9 +69,9 @@ modelOf iant p =
 unfoldable pub searchRefused : Search → Bool
 searchRefused s = not (s .tally .sound && finite (s .peak .z6) && finite (s .peak .umax) && finite (s .peak .vmax))
 
--- the antenna record with the readings of its search
+-- the antenna record, with the sum of its table, and the readings of its search
 unfoldable pub acceptedOf : Model → Search → Outcome (Antenna × ℕ)
-acceptedOf m s = accepted (record { model = m; peak = s .peak }, s .tally .readings)
+acceptedOf m s = accepted (record { model = m; peak = s .peak; sum = tableSum (tableOf m) }, s .tally .readings)
 
 unfoldable pub found : Model → Search → Outcome (Antenna × ℕ)
 found m s = cond (searchRefused s) (refused PATTERN) (acceptedOf m s)
@@ -112,6 +113,7 @@ noAntenna = record {
     };
   };
   peak = record { z6 = +0; umax = +0; vmax = +0 };
+  sum = 0;
 }
 
 -- the antenna record beside the answer

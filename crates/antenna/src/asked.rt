@@ -1,5 +1,5 @@
 // Why gain and row refuse before any number is computed. What both read, the antenna record and its
-// table, is tried here, once, in the order of the numbers.
+// table, is tried here, once, in the order of the numbers: 15, which is tried before 10, is the last.
 use model::counts::counts_ok;
 use model::record::Model;
 use model::table::SIZE;
@@ -8,11 +8,12 @@ ghost use mathlib.Core.Path.{_≡_};
 ghost use Rattle.antenna.specs.Asked.{askedRefusal};
 
 // What a call says of its own arguments: its floats are finite, its elevation is one that it takes,
-// and the space lent for its answer is right.
+// the space lent for its answer is right, and the table is the record's own.
 pub struct Asked {
     pub values: bool,
     pub aim: bool,
     pub space: bool,
+    pub own: bool,
 }
 
 // The first number, 0 where there is none, with a table of size floats.
@@ -33,6 +34,9 @@ pub(crate) fn refusal(m: Model, size: usize, asked: Asked) -> u8
     }
     if (size < SIZE) | !asked.space {
         return answers::SPACE;
+    }
+    if !asked.own {
+        return answers::TABLE;
     }
     0
 }

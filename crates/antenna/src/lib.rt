@@ -22,5 +22,6 @@ pub mod record;
 pub mod row;
 mod search;
 pub mod setup;
+mod sum;
 mod whole;
 pub mod why;

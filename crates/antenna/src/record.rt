@@ -12,4 +12,5 @@ pub struct Peak {
 pub struct Antenna {
     pub model: Model,
     pub peak: Peak,
+    pub sum: u32, // of the table, by its floats' bits
 }

@@ -5,6 +5,7 @@ use crate::behind::front_to_back;
 use crate::copy::lay_over;
 use crate::gain::decibels;
 use crate::record::Antenna;
+use crate::sum::has_sum;
 use crate::whole::truncated;
 use floats::range::all_finite;
 use floats::range::is_between;
@@ -40,14 +41,15 @@ fn elevation_ok(u: f32) -> bool
 }
 
 // What a row asks, with n floats lent for it.
-fn row_asked(u: f32, giso: f32, n: usize) -> Asked
-    ensures { λ r. ⌜ r ≡ rowAsked u giso n ⌝ }
+fn row_asked(own: bool, u: f32, giso: f32, n: usize) -> Asked
+    ensures { λ r. ⌜ r ≡ rowAsked own u giso n ⌝ }
 {
     let values = is_finite(u) & is_finite(giso);
     Asked {
         values,
         aim: elevation_ok(u),
         space: n == 360,
+        own,
     }
 }
 
@@ -110,8 +112,9 @@ pub fn row(ant: Antenna, table: &[f32], u: f32, giso: f32, lent: &mut [f32]) -> 
     ensures { λ r. ⌜ rowAnswer r ≡ rowOf ant (now (table .entry)) u giso (length (now (lent .entry))) ⌝ }
     ensures { λ _. ⌜ now (lent .exit) ≡ rowAfter ant (now (table .entry)) u giso (now (lent .entry)) ⌝ }
 {
+    let own = has_sum(table, ant.sum);
     let m = ant.model;
-    let number = refusal(m, table.len(), row_asked(u, giso, lent.len()));
+    let number = refusal(m, table.len(), row_asked(own, u, giso, lent.len()));
     if 0 < number {
         return PlateRow::Refused(number);
     }

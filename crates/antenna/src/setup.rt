@@ -9,6 +9,7 @@ use crate::record::Antenna;
 use crate::record::Peak;
 use crate::search::Search;
 use crate::search::gainorm;
+use crate::sum::sum_of;
 use crate::whole::not_zero;
 use ground::parmprec::ground_of;
 use ground::parmprec::table_of;
@@ -30,7 +31,9 @@ ghost use lib.ListN.{length};
 ghost use Rattle.model.specs.Counts.{countsOk};
 ghost use Rattle.logperiodic.specs.Active.{Listed};
 ghost use Rattle.answers.specs.Outcome.{refused};
+ghost use Rattle.ground.specs.Table.{tableOf};
 ghost use Rattle.antenna.specs.Limits.{slotsOk};
+ghost use Rattle.antenna.specs.TableSum.{tableSum};
 ghost use Rattle.antenna.specs.SetUp.{designOf, noElements, elementsOf, slewedOf, modelOf, searchRefused, acceptedOf, setUpOf, setUpAnswer, noAntenna, besideOf, lentAfter};
 
 // How often the search read the gain, or the number of a refusal.
@@ -163,7 +166,11 @@ fn no_antenna() -> Antenna
         umax: 0.0,
         vmax: 0.0,
     };
-    Antenna { model, peak }
+    Antenna {
+        model,
+        peak,
+        sum: 0,
+    }
 }
 
 fn refuse(number: u8) -> SetUp
@@ -177,12 +184,13 @@ fn refuse(number: u8) -> SetUp
     }
 }
 
-fn accept(model: Model, s: Search) -> SetUp
+fn accept(model: Model, s: Search, sum: u32) -> SetUp
+    requires { ⌜ sum ≡ tableSum (tableOf model) ⌝ }
     ensures { λ r. ⌜ setUpAnswer r ≡ acceptedOf model s ⌝ }
     ensures { λ r. ⌜ r .antenna ≡ besideOf (acceptedOf model s) ⌝ }
 {
     let peak = s.peak;
-    let antenna = Antenna { model, peak };
+    let antenna = Antenna { model, peak, sum };
     SetUp {
         answer: Prepared::Ready(s.tally.readings),
         antenna,
@@ -207,5 +215,5 @@ pub fn antinit2(parm: [f32; 20], lent: &mut [f32]) -> SetUp
         return refuse(answers::PATTERN);
     }
     lay_over(&table, lent);
-    accept(model, found)
+    accept(model, found, sum_of(&table))
 }

@@ -15,7 +15,7 @@ use Rattle.antenna_words.proofs.Lengths.{bits-length}
 use Rattle.antenna_words.proofs.Places.{total, joined-length, field, floats-field, word-field}
 
 abbrev sizes : List ℕ
-sizes = 2 ∷ 16 ∷ 36 ∷ 36 ∷ 36 ∷ 36 ∷ 36 ∷ 36 ∷ 31 ∷ 1 ∷ 91 ∷ 91 ∷ 91 ∷ 91 ∷ 91 ∷ 91 ∷ 91 ∷ 91 ∷ 3 ∷ []
+sizes = 2 ∷ 16 ∷ 36 ∷ 36 ∷ 36 ∷ 36 ∷ 36 ∷ 36 ∷ 31 ∷ 1 ∷ 91 ∷ 91 ∷ 91 ∷ 91 ∷ 91 ∷ 91 ∷ 91 ∷ 91 ∷ 3 ∷ 1 ∷ []
 
 sized : (a : Antenna) → Held a → map length (antennaFields a) ≡ sizes
 unfolding headFields elementFields trigFields groundFields peakFields antennaFields
@@ -80,6 +80,10 @@ module _ (a : Antenna) (h : Held a) (n : CountsAreWords a) where
   unfolding joined antennaWords antennaFields headFields
   second-word = refl
 
+  sum-back : getD (antennaWords a) 997 0 ≡ a .sum
+  unfolding antennaWords antennaFields headFields elementFields trigFields groundFields peakFields
+  sum-back = word-field fs (sized a h) 19 refl
+
   pub antenna-in-words : antennaIn (antennaWords a) ≡ a
   unfolding antennaOf antennaIn
-  antenna-in-words = rw (first-word, second-word, read-flag (a .model .slewed), constants-back, elements-back, trig-back, ground-back, peak-back)
+  antenna-in-words = rw (first-word, second-word, read-flag (a .model .slewed), constants-back, elements-back, trig-back, ground-back, peak-back, sum-back)

@@ -1,4 +1,4 @@
--- An antenna record as 997 words: its fields in the record's order, one after the other. Definitions only.
+-- An antenna record as 998 words: its fields in the record's order, one after the other. Definitions only.
 use Prim.Native.Nat.{ℕ, _%_, _^_}
 use mathlib.Core.Bool.{Bool, cond}
 use mathlib.Core.List.{List, [], _∷_, _++_, map}
@@ -12,7 +12,7 @@ use Rattle.antenna.specs.declared.record.Peak.{Peak}
 use Rattle.antenna.specs.declared.record.Antenna.{Antenna}
 
 abbrev pub antennaSize : ℕ
-antennaSize = 997
+antennaSize = 998
 
 -- lists one after the other
 unfoldable pub joined : List (List ℕ) → List ℕ
@@ -50,7 +50,7 @@ headFields a = (a .model .iant ∷ flag (a .model .slewed) ∷ []) ∷ bits (con
 
 unfoldable pub antennaFields : Antenna → List (List ℕ)
 antennaFields a =
-    headFields a ++ elementFields (a .model .elements) ++ trigFields (a .model .trig) ++ groundFields (a .model .ground) ++ peakFields (a .peak)
+    headFields a ++ elementFields (a .model .elements) ++ trigFields (a .model .trig) ++ groundFields (a .model .ground) ++ peakFields (a .peak) ++ ((a .sum ∷ []) ∷ [])
 
 unfoldable pub antennaWords : Antenna → List ℕ
 antennaWords a = joined (antennaFields a)

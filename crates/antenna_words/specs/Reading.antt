@@ -1,4 +1,4 @@
--- The antenna record in 997 words, whatever they are: each field from its place on. Definitions only.
+-- The antenna record in 998 words, whatever they are: each field from its place on. Definitions only.
 use Prim.Native.Nat.{ℕ}
 use mathlib.Core.Bool.{not}
 use mathlib.Core.List.{List}
@@ -75,6 +75,7 @@ antennaOf ws fs = record {
     ground = groundOf fs;
   };
   peak = peakOf (part fs 994 3);
+  sum = getD ws 997 0;
 }
 
 unfoldable pub antennaIn : List ℕ → Antenna

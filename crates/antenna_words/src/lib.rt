@@ -1,4 +1,4 @@
-// The antenna record as 997 words, in the record's field order: for callers that keep it between
+// The antenna record as 998 words, in the record's field order: for callers that keep it between
 // calls. `put_antenna` writes them (`antennaWords`, specs/Fields.antt), `antenna_in` reads any
 // words (`antennaIn`, specs/Reading.antt).
 //

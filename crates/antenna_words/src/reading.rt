@@ -17,11 +17,11 @@ ghost use Rattle.words.specs.Patterns.{floats, part};
 ghost use Rattle.antenna_words.specs.Reading.{constantsOf, elementsOf, trigOf, groundOf, peakOf, antennaOf, antennaIn};
 
 // All words as floats, in one go: the counts among them are read from the words.
-fn all_floats(words: &[u32]) -> [f32; 997]
-    requires { ⌜ length (now words) ≡ 997 ⌝ }
+fn all_floats(words: &[u32]) -> [f32; 998]
+    requires { ⌜ length (now words) ≡ 998 ⌝ }
     ensures { λ r. ⌜ r ≡ floats (now (words .entry)) ⌝ }
 {
-    let mut out = [0.0f32; 997];
+    let mut out = [0.0f32; 998];
     read_bits(words, 0, &mut out);
     out
 }
@@ -104,7 +104,7 @@ fn constants_of(k: [f32; 16]) -> Constants
 }
 
 fn elements_of(words: &[u32], fs: &[f32]) -> Elements
-    requires { ⌜ (length (now words) ≡ 997) × (length (now fs) ≡ 997) ⌝ }
+    requires { ⌜ (length (now words) ≡ 998) × (length (now fs) ≡ 998) ⌝ }
     ensures { λ r. ⌜ r ≡ elementsOf (now (words .entry)) (now (fs .entry)) ⌝ }
 {
     Elements {
@@ -120,7 +120,7 @@ fn elements_of(words: &[u32], fs: &[f32]) -> Elements
 }
 
 fn trig_of(fs: &[f32]) -> Trig
-    requires { ⌜ length (now fs) ≡ 997 ⌝ }
+    requires { ⌜ length (now fs) ≡ 998 ⌝ }
     ensures { λ r. ⌜ r ≡ trigOf (now (fs .entry)) ⌝ }
 {
     Trig {
@@ -130,7 +130,7 @@ fn trig_of(fs: &[f32]) -> Trig
 }
 
 fn ground_of(fs: &[f32]) -> Ground
-    requires { ⌜ length (now fs) ≡ 997 ⌝ }
+    requires { ⌜ length (now fs) ≡ 998 ⌝ }
     ensures { λ r. ⌜ r ≡ groundOf (now (fs .entry)) ⌝ }
 {
     Ground {
@@ -155,7 +155,7 @@ fn peak_of(k: [f32; 3]) -> Peak
 
 // The record by its words and by their floats.
 fn antenna_of(words: &[u32], fs: &[f32]) -> Antenna
-    requires { ⌜ (length (now words) ≡ 997) × (length (now fs) ≡ 997) ⌝ }
+    requires { ⌜ (length (now words) ≡ 998) × (length (now fs) ≡ 998) ⌝ }
     ensures { λ r. ⌜ r ≡ antennaOf (now (words .entry)) (now (fs .entry)) ⌝ }
 {
     let constants = constants_of(floats_16(fs, 2));
@@ -171,12 +171,17 @@ fn antenna_of(words: &[u32], fs: &[f32]) -> Antenna
         ground,
     };
     let peak = peak_of(floats_3(fs, 994));
-    Antenna { model, peak }
+    Antenna {
+        model,
+        peak,
+        sum: words[997],
+    }
 }
 
-// The antenna record in 997 words, whatever they are.
+// The antenna record in 998 words, whatever they are. An inner step: the caller sees that there are
+// so many.
 pub fn antenna_in(words: &[u32]) -> Antenna
-    requires { ⌜ length (now words) ≡ 997 ⌝ }
+    requires { ⌜ length (now words) ≡ 998 ⌝ }
     ensures { λ r. ⌜ r ≡ antennaIn (now (words .entry)) ⌝ }
 {
     let fs = all_floats(words);

@@ -44,7 +44,7 @@ fn truth(b: bool) -> u32
 
 // The type, whether it is slewed, and the constants.
 fn put_head(out: &mut [u32], iant: u32, slewed: bool, k: Constants)
-    requires { ⌜ length (now out) ≡ 997 ⌝ }
+    requires { ⌜ length (now out) ≡ 998 ⌝ }
     ensures { λ _. ⌜ now (out .exit) ≡ laid (now (out .entry)) 0 ((iant ∷ flag slewed ∷ []) ++ bits (constantFloats k)) ⌝ }
     ensures { λ _. ⌜ F32s (constantFloats k) ⌝ }
 {
@@ -73,7 +73,7 @@ fn put_head(out: &mut [u32], iant: u32, slewed: bool, k: Constants)
 
 // The elements' phases, currents and places.
 fn put_currents(out: &mut [u32], e: Elements)
-    requires { ⌜ length (now out) ≡ 997 ⌝ }
+    requires { ⌜ length (now out) ≡ 998 ⌝ }
     ensures { λ _. ⌜ now (out .exit) ≡ laid (now (out .entry)) 18 (bits (e .fi) ++ bits (e .rim) ++ (bits (e .x) ++ bits (e .y))) ⌝ }
     ensures { λ _. ⌜ F32s (e .fi) × F32s (e .rim) × F32s (e .x) × F32s (e .y) ⌝ }
 {
@@ -87,7 +87,7 @@ fn put_currents(out: &mut [u32], e: Elements)
 
 // The active elements' numbers, all lengths and heights, and how many are active.
 fn put_active(out: &mut [u32], e: Elements)
-    requires { ⌜ length (now out) ≡ 997 ⌝ }
+    requires { ⌜ length (now out) ≡ 998 ⌝ }
     ensures { λ _. ⌜ now (out .exit) ≡ laid (now (out .entry)) 162 (map low (e .iek) ++ (bits (e .rl) ++ bits (e .h) ++ (low (e .nat) ∷ []))) ⌝ }
     ensures { λ _. ⌜ F32s (e .rl) × F32s (e .h) ⌝ }
 {
@@ -101,7 +101,7 @@ fn put_active(out: &mut [u32], e: Elements)
 }
 
 fn put_elements(out: &mut [u32], e: Elements)
-    requires { ⌜ length (now out) ≡ 997 ⌝ }
+    requires { ⌜ length (now out) ≡ 998 ⌝ }
     ensures { λ _. ⌜ now (out .exit) ≡ laid (now (out .entry)) 18 (joined (elementFields e)) ⌝ }
     ensures { λ _. ⌜ HeldElements e ⌝ }
 {
@@ -110,7 +110,7 @@ fn put_elements(out: &mut [u32], e: Elements)
 }
 
 fn put_trig(out: &mut [u32], t: Trig)
-    requires { ⌜ length (now out) ≡ 997 ⌝ }
+    requires { ⌜ length (now out) ≡ 998 ⌝ }
     ensures { λ _. ⌜ now (out .exit) ≡ laid (now (out .entry)) 266 (joined (trigFields t)) ⌝ }
     ensures { λ _. ⌜ HeldTrig t ⌝ }
 {
@@ -120,7 +120,7 @@ fn put_trig(out: &mut [u32], t: Trig)
 }
 
 fn put_ground(out: &mut [u32], g: Ground)
-    requires { ⌜ length (now out) ≡ 997 ⌝ }
+    requires { ⌜ length (now out) ≡ 998 ⌝ }
     ensures { λ _. ⌜ now (out .exit) ≡ laid (now (out .entry)) 448 (joined (groundFields g)) ⌝ }
     ensures { λ _. ⌜ HeldGround g ⌝ }
 {
@@ -136,7 +136,7 @@ fn put_ground(out: &mut [u32], g: Ground)
 }
 
 fn put_tables(out: &mut [u32], t: Trig, g: Ground)
-    requires { ⌜ length (now out) ≡ 997 ⌝ }
+    requires { ⌜ length (now out) ≡ 998 ⌝ }
     ensures { λ _. ⌜ now (out .exit) ≡ laid (now (out .entry)) 266 (joined (trigFields t) ++ joined (groundFields g)) ⌝ }
     ensures { λ _. ⌜ HeldTrig t × HeldGround g ⌝ }
 {
@@ -145,7 +145,7 @@ fn put_tables(out: &mut [u32], t: Trig, g: Ground)
 }
 
 fn put_peak(out: &mut [u32], p: Peak)
-    requires { ⌜ length (now out) ≡ 997 ⌝ }
+    requires { ⌜ length (now out) ≡ 998 ⌝ }
     ensures { λ _. ⌜ now (out .exit) ≡ laid (now (out .entry)) 994 (bits (p .z6 ∷ p .umax ∷ p .vmax ∷ [])) ⌝ }
     ensures { λ _. ⌜ F32s (p .z6 ∷ p .umax ∷ p .vmax ∷ []) ⌝ }
 {
@@ -153,9 +153,10 @@ fn put_peak(out: &mut [u32], p: Peak)
     put_floats(out, 994, &floats);
 }
 
-// Writes the record over all 997 words. Reading them gives the record back.
+// Writes the record over all 998 words. Reading them gives the record back. An inner step: the caller
+// sees that there are so many.
 pub fn put_antenna(out: &mut [u32], ant: Antenna)
-    requires { ⌜ length (now out) ≡ 997 ⌝ }
+    requires { ⌜ length (now out) ≡ 998 ⌝ }
     ensures { λ _. ⌜ now (out .exit) ≡ antennaWords ant ⌝ }
     ensures { λ _. ⌜ (CountsAreWords ant → antennaIn (now (out .exit)) ≡ ant) ⌝ }
 {
@@ -164,4 +165,5 @@ pub fn put_antenna(out: &mut [u32], ant: Antenna)
     put_elements(out, m.elements);
     put_tables(out, m.trig, m.ground);
     put_peak(out, ant.peak);
+    out[997] = ant.sum;
 }

@@ -29,6 +29,7 @@ use Rattle.antenna.specs.Limits.{designOk, bandOk, slotsOk, startOf, startOk, s
 use Rattle.antenna.specs.TypeConstants.{number, given, constantsWith, arrayOwn, ownOf, constantsOf}
 use Rattle.antenna.specs.Whole.{nonZero}
 use Rattle.antenna.specs.Search.{untold, tallied, turns, plateauCentre, azmaxRead, turnsIn, azmaxTurn, azmaxOf, sweepRead, sweepTurn, sweepOf, planeElevation, planeOf, planeSearched, aimOf, elevationRead, elevationsTo, wrapped, refinedOf, lastSearched, gainormOf}
+use Rattle.antenna.specs.TableSum.{tableSum}
 use Rattle.antenna.specs.SetUp.{noElements, elementsOf, slewedOf, modelOf, searchRefused, acceptedOf}
 use Rattle.answers.specs.Outcome.{accepted}
 use Rattle.antenna.specs.declared.record.Antenna.{Antenna}
@@ -59,7 +60,8 @@ searched = (refl, refl)
 met : (p : List Float) (n : ℕ) → limits p → takes n (searchOf p) ≡ true → Takes p n
 unfolding limits takes acceptedOf
 met p n w s =
-    let a : Antenna = record { model = modelOf (jantOf (slot p 1)) p; peak = searchOf p .peak } in
+    let m = modelOf (jantOf (slot p 1)) p in
+    let a : Antenna = record { model = m; peak = searchOf p .peak; sum = tableSum (tableOf m) } in
     let t = both (not (searchRefused (searchOf p))) _ s in
     (a, accepted-when p tableSize (record { limits = w; search = not-true _ (t .0) }) ∙ ap (λ (k : ℕ). accepted (a, k)) (eqb-true _ n (t .1)))
 

@@ -1,9 +1,9 @@
 -- The mirror law's exceptions are real: each station's set-up and its two answers, computed.
 use Prim.Native.Nat.{ℕ, _-_, _≤_}
 use mathlib.Core.Path.{_≡_, refl, sym, ap, _∙_}
-use mathlib.Core.Bool.{true, false, cond, _||_}
+use mathlib.Core.Bool.{Bool, true, false, cond, not, _||_}
 use mathlib.Core.List.{List}
-use borrow.Author.Tests.{le-ltb, eqb-false}
+use borrow.Author.Tests.{le-ltb, eq-eqb, eqb-false}
 use lib.Dec.{eqb, ltb}
 use lib.ListN.{length}
 use lib.Ieee.{Float, binary32, sub, mul, div, rem, le, ne, ofInt, toSigned, ofBits, toBits}
@@ -31,7 +31,8 @@ use Rattle.pattern.specs.Rhombic.{gain7}
 use Rattle.pattern.specs.Crossed.{gain89}
 use Rattle.pattern.specs.Gainrel.{factorsIn, gainIn, gainRel}
 use Rattle.answers.specs.Outcome.{accepted}
-use Rattle.answers.specs.Refusals.{SPACE}
+use Rattle.answers.specs.Refusals.{SPACE, TABLE}
+use Rattle.antenna.specs.TableSum.{tableSum, ownTable}
 use Rattle.antenna.specs.Asked.{askedRefusal}
 use Rattle.antenna.specs.Gain.{level, floored, ratioLevel, decibelsOf, kindOf, graded, numberAt, gainAsked, gainOf}
 use Rattle.antenna.specs.Limits.{designOk, bandOk, slotsOk, startOf, startOk, slewOk, aimOk, refusalOf}
@@ -58,16 +59,16 @@ unfolding searchOf
 search-is p = refl
 
 abbrev antennaOf : List Float → Peak → Antenna
-antennaOf p peak = record { model = modelOf (jantOf (slot p 1)) p; peak = peak }
+antennaOf p peak = let m = modelOf (jantOf (slot p 1)) p in record { model = m; peak = peak; sum = tableSum (tableOf m) }
 
 abbrev foundAt : Peak → ℕ → Search
 foundAt peak readings = record { peak = peak; tally = record { readings = readings; sound = true } }
 
--- at elevation u and azimuth w only too small a table is refused, and the answer is x
+-- at elevation u and azimuth w only too small a table and another's are refused, and the answer is x
 abbrev Answers : List Float → Peak → ℕ → ℕ → Float → Type 0
 Answers p peak u w x =
     let m = modelOf (jantOf (slot p 1)) p in
-    ((n : ℕ) → askedRefusal m n (gainAsked (count u) (count w) +0) ≡ cond (ltb n tableSize || false) SPACE 0)
+    ((n : ℕ) (own : Bool) → askedRefusal m n (gainAsked own (count u) (count w) +0) ≡ cond (ltb n tableSize || false) SPACE (cond (not own) TABLE 0))
     × ((t : List Float) → graded (peak .z6) (numberAt m (peak .z6) t (count u) (count w) +0) ≡ accepted (level, x))
 
 -- what is computed of a station: it meets the limits, its search finds this peak in so many readings, and its two answers
@@ -86,9 +87,9 @@ module _ {p : List Float} {peak : Peak} {readings u v : ℕ} {here there : Float
       let found = sym (search-is p) ∙ c .search in
       accepted-when p n (record { limits = rw (c .limits n, le-ltb n tableSize h); search = rw found (c .found) }) ∙ rw found
 
-  answer : (w : ℕ) (x : Float) → Answers p peak u w x → (t : List Float) → tableSize ≤ length t → gainOf (antennaOf p peak) t (count u) (count w) +0 ≡ accepted (level, x)
+  answer : (w : ℕ) (x : Float) → Answers p peak u w x → (t : List Float) → tableSize ≤ length t → tableSum t ≡ antennaOf p peak .sum → gainOf (antennaOf p peak) t (count u) (count w) +0 ≡ accepted (level, x)
   unfolding gainOf
-  answer w x a t h = rw (a .0 (length t), le-ltb (length t) tableSize h) (a .1 t)
+  answer w x a t h e = rw (a .0 (length t) (ownTable (antennaOf p peak) t), le-ltb (length t) tableSize h, eq-eqb (tableSum t) (antennaOf p peak .sum) e) (a .1 t)
 
   unlike : Unlike p u v here there
   unlike = record {
@@ -104,19 +105,19 @@ module _ {p : List Float} {peak : Peak} {readings u v : ℕ} {here there : Float
 
 at-90 : Computed (dipoles 0) (peakOf 0x413f5e65 14 0) 90 20 90 (literal 0xc1cef63a) (literal 0xc1cec61b)
 unfolding searchOf
-at-90 = record { limits = λ n. refl; search = refl; found = refl; at-v = (λ n. refl, λ t. refl); at-mirror = (λ n. refl, λ t. refl); bits = refl }
+at-90 = record { limits = λ n. refl; search = refl; found = refl; at-v = (λ n own. refl, λ t. refl); at-mirror = (λ n own. refl, λ t. refl); bits = refl }
 
 slewed : Computed (dipoles 20) (peakOf 0x4132a539 14 16) 141 20 1 (literal 0xc076cb76) (literal 0xc092e95f)
 unfolding searchOf
-slewed = record { limits = λ n. refl; search = refl; found = refl; at-v = (λ n. refl, λ t. refl); at-mirror = (λ n. refl, λ t. refl); bits = refl }
+slewed = record { limits = λ n. refl; search = refl; found = refl; at-v = (λ n own. refl, λ t. refl); at-mirror = (λ n own. refl, λ t. refl); bits = refl }
 
 type-7 : Computed rhombic (peakOf 0x449ed51c 15 0) 90 20 2 (literal 0xbfcbea4d) (literal 0xbfcbea52)
 unfolding searchOf
-type-7 = record { limits = λ n. refl; search = refl; found = refl; at-v = (λ n. refl, λ t. refl); at-mirror = (λ n. refl, λ t. refl); bits = refl }
+type-7 = record { limits = λ n. refl; search = refl; found = refl; at-v = (λ n own. refl, λ t. refl); at-mirror = (λ n own. refl, λ t. refl); bits = refl }
 
 type-8 : Computed quadrant (peakOf 0x402afbb2 49 0) 90 20 1 (literal 0xbfff3b91) (literal 0xbfff3b80)
 unfolding searchOf
-type-8 = record { limits = λ n. refl; search = refl; found = refl; at-v = (λ n. refl, λ t. refl); at-mirror = (λ n. refl, λ t. refl); bits = refl }
+type-8 = record { limits = λ n. refl; search = refl; found = refl; at-v = (λ n own. refl, λ t. refl); at-mirror = (λ n own. refl, λ t. refl); bits = refl }
 
 pub exceptions : Exceptions
 exceptions = record { at-90 = unlike at-90; slewed = unlike slewed; type-7 = unlike type-7; type-8 = unlike type-8 }

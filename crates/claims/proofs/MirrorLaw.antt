@@ -7,13 +7,11 @@ use native.Mathlib.Omega.{arith}
 use lib.Dec.{leb→le}
 use lib.IntN.{ℤ, pos, negsuc, negℤ, natAbs}
 use lib.Signed.{_≤ℤ_}
-use lib.ListN.{length}
 use lib.Ieee.{Float, toSigned}
 use Rattle.model.specs.Types.{jantOf}
 use Rattle.model.specs.Limits.{slot}
 use Rattle.curtain.specs.Pattrn0.{islewOf}
 use Rattle.curtain.proofs.Unslewed.{curtain-mirror}
-use Rattle.antenna.specs.SetUp.{lentAfter}
 use Rattle.antenna.proofs.Mirror.{gain-mirror}
 use Rattle.claims.specs.MirrorLaw.{Symmetric, MirrorLaw}
 
@@ -34,6 +32,6 @@ unfolding islewOf
 mirror-law =
     record {
       ccirgain =
-          λ p lent a n h s u giso v l x y. gain-mirror p (length lent) h (to-type-6 p s) (no-slew p s) (lentAfter p lent) u giso v l x y;
+          λ p n a readings h s t u giso v l x y. gain-mirror p n h (to-type-6 p s) (no-slew p s) t u giso v l x y;
       curtain = λ p l h azimd elevd gnorm. curtain-mirror p (at-most-3 _ l h) azimd elevd gnorm;
     }

@@ -1,4 +1,5 @@
 -- Document 01, "Answers": the table of refusals of each call, in the table's words: a number, and the condition it comes with.
+-- Document 02's card 9 tries 15 before 10, so that a number is asked for of the record's own table alone: there 10's condition says so.
 -- Definitions only.
 use Prim.Native.Nat.{ℕ}
 use mathlib.Core.Bool.{not, _&&_, _||_}
@@ -8,7 +9,7 @@ use lib.Dec.{ltb, leb, eqb}
 use lib.Ieee.{Float}
 use lib.Ieee.Scale.{finite}
 use Rattle.answers.specs.Outcome.{Outcome, refused, accepted}
-use Rattle.answers.specs.Refusals.{RECORD, VALUE, TYPE, MODE, BAND, COUNT, AIM, SPACE, PATTERN, LEVEL}
+use Rattle.answers.specs.Refusals.{RECORD, VALUE, TYPE, MODE, BAND, COUNT, AIM, SPACE, PATTERN, LEVEL, TABLE}
 use Rattle.answers.specs.Table.{Line, _when_}
 use Rattle.floats.specs.Ranges.{allFinite}
 use Rattle.model.specs.Counts.{countsOk}
@@ -27,6 +28,7 @@ use Rattle.station.specs.declared.Station.{Station}
 use Rattle.antenna.specs.Limits.{bandOk, slotsOk, aimOk, startOf}
 use Rattle.antenna.specs.Search.{gainormOf}
 use Rattle.antenna.specs.SetUp.{modelOf, searchRefused}
+use Rattle.antenna.specs.TableSum.{ownTable}
 use Rattle.antenna.specs.Gain.{numberAt}
 use Rattle.antenna.specs.Row.{elevationOk, numbersOf, frontToBack}
 use Rattle.antenna.specs.declared.record.Antenna.{Antenna}
@@ -69,7 +71,8 @@ gainTable a t u v giso =
     ∷ (TYPE when not (typeOk (a .model .iant)))
     ∷ (COUNT when not (countsOk (a .model)))
     ∷ (SPACE when ltb (length t) tableSize)
-    ∷ (LEVEL when not (finite (numberAt (a .model) (a .peak .z6) t u v giso)))
+    ∷ (LEVEL when (ownTable a t && not (finite (numberAt (a .model) (a .peak .z6) t u v giso))))
+    ∷ (TABLE when not (ownTable a t))
     ∷ []
 
 -- the row, with size floats lent for it
@@ -81,7 +84,8 @@ rowTable a t u giso size =
     ∷ (COUNT when not (countsOk (a .model)))
     ∷ (AIM when not (elevationOk u))
     ∷ (SPACE when (ltb (length t) tableSize || not (eqb size 360)))
-    ∷ (LEVEL when not (allFinite row && finite (frontToBack row)))
+    ∷ (LEVEL when (ownTable a t && not (allFinite row && finite (frontToBack row))))
+    ∷ (TABLE when not (ownTable a t))
     ∷ []
 
 -- the curtain

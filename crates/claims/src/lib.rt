@@ -13,8 +13,8 @@
 //
 // Demand 3, the mirror law: `mirror-law : MirrorLaw`, specs/MirrorLaw.antt. An antenna that set-up
 // accepted, of types 1 to 4 with a slew that truncates to 0 or of types 5 and 6, answers at 360 - v
-// what it answers at v, for each whole azimuth but 90 and 270; a curtain whose rounded slew is -3
-// to 3 answers at every azimuth what it answers at its negative.
+// what it answers at v, for each whole azimuth but 90 and 270, whatever table it is lent; a curtain
+// whose rounded slew is -3 to 3 answers at every azimuth what it answers at its negative.
 //
 // What it leaves out breaks it: `exceptions : Exceptions`, specs/Exceptions.antt. Four accepted
 // stations, with the bits of two answers that differ: a type 2 at 90 and 270, the same with a slew, a

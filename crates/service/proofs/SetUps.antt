@@ -16,6 +16,7 @@ use Rattle.model.specs.Limits.{slot}
 use Rattle.ground.specs.Table.{tableOf}
 use Rattle.antenna.specs.Limits.{startOf, refusalOf}
 use Rattle.antenna.specs.Search.{gainormOf}
+use Rattle.antenna.specs.TableSum.{tableSum}
 use Rattle.antenna.specs.SetUp.{modelOf, searchRefused, acceptedOf, found, searched, setUpOf, setUpAnswer}
 use Rattle.antenna.specs.declared.record.Antenna.{Antenna}
 use Rattle.antenna.specs.declared.record.Peak.{Peak}
@@ -45,7 +46,7 @@ some-number p size n h =
     let iant = jantOf (slot p 1) in
     let m = modelOf iant p in
     let s = gainormOf m (tableOf m) (startOf iant p) in
-    by-tests (refusalOf iant p size) n (ltb 0 (refusalOf iant p size)) (searchRefused s) (record { model = m; peak = s .peak }, s .tally .readings) refl h
+    by-tests (refusalOf iant p size) n (ltb 0 (refusalOf iant p size)) (searchRefused s) (record { model = m; peak = s .peak; sum = tableSum (tableOf m) }, s .tally .readings) refl h
 
 pub four-words : (n : ℕ) (p : Peak) → length (searchWords n p) ≡ 4
 unfolding searchWords

@@ -20,7 +20,7 @@ ghost use Rattle.antenna_words.specs.Reading.{antennaIn};
 ghost use Rattle.service.specs.Antennas.{setUpLeft, setUpCall, gainNumber, gainCall, rowNumber, rowCall, rowCallAfter};
 
 // The antenna record's words.
-const ANTENNA: usize = 997;
+const ANTENNA: usize = 998;
 
 // `antinit2` of twenty parameters: 0, with the table, the antenna record's words and what the search
 // found; or the refusal. 8 first for parameters, a record or words of another number. What is left

@@ -2,18 +2,20 @@
 use crate::arrays::parm_at;
 use crate::search::put_search;
 use antenna::gain::Gain;
-use antenna::gain::ccirgain;
+use antenna::gain::gain_told;
 use antenna::record::Antenna;
 use antenna::setup::Prepared;
 use antenna::setup::antinit2;
 use model::table::blank_table;
 use numeric::bits::bits_of;
 ghost use mathlib.Core.Path.{_≡_};
+ghost use mathlib.Core.Bool.{true};
 ghost use mathlib.Core.List.{[], _∷_};
 ghost use Prim.Native.Nat.{_+_, _/_, _%_, _≤_};
 ghost use lib.ListN.{length};
 ghost use Rattle.antenna.specs.Gain.{gainAnswer};
 ghost use Rattle.antenna.specs.SetUp.{setUpOf, lentAfter};
+ghost use Rattle.antenna.specs.TableSum.{ownTable};
 ghost use Rattle.service.specs.Lists.{left};
 ghost use Rattle.words.specs.Laid.{laid};
 ghost use Rattle.service.specs.Gains.{gainWords, gainsTo, gainsLeft, gainsFit, gainsCall};
@@ -56,16 +58,17 @@ fn put_gain(out: &mut [u32], at: usize, g: Gain)
     out[at + 1] = pair.word;
 }
 
-// The gains at all directions, from word 4 on.
+// The gains at all directions, from word 4 on. The table is the record's own, so that its sum isn't
+// taken for each.
 fn put_gains(ant: Antenna, table: &[f32], giso: f32, directions: &[f32], out: &mut [u32])
-    requires { ⌜ length (now out) ≡ 4 + length (now directions) ⌝ }
+    requires { ⌜ (length (now out) ≡ 4 + length (now directions)) × (ownTable ant (now table) ≡ true) ⌝ }
     ensures { λ _. ⌜ now (out .exit) ≡ laid (now (out .entry)) 4 (gainsTo ant (now (table .entry)) giso (now (directions .entry)) (length (now (directions .entry)) / 2)) ⌝ }
 {
     let pairs = directions.len() / 2;
     let mut k: usize = 0;
     while k < pairs {
         let i = 2 * k;
-        let gain = ccirgain(ant, table, directions[i], directions[i + 1], giso);
+        let gain = gain_told(ant, table, true, directions[i], directions[i + 1], giso);
         put_gain(out, 4 + i, gain);
         k += 1;
     }

@@ -11,6 +11,7 @@ use lib.Ieee.Scale.{finite}
 use Rattle.floats.specs.Ranges.{allFinite}
 use Rattle.answers.specs.Outcome.{refused, accepted}
 use Rattle.answers.specs.Refusals.{LEVEL}
+use Rattle.antenna.specs.TableSum.{ownTable}
 use Rattle.antenna.specs.Asked.{askedRefusal}
 use Rattle.antenna.specs.Row.{numbersOf, frontToBack, measured, rowAsked, rowOf, writtenAfter, rowAfter}
 use Rattle.antenna.specs.declared.asked.Asked.{Asked}
@@ -18,7 +19,7 @@ use Rattle.antenna.specs.declared.record.Antenna.{Antenna}
 use Rattle.antenna.proofs.Granted.{Granted, granted}
 
 module _ (a : Antenna) (t : List Float) (u giso : Float) (lent : List Float) where
-  module _ (asked : Asked) (k : asked ≡ rowAsked u giso (length lent)) (n : ℕ) (r : n ≡ askedRefusal (a .model) (length t) asked) where
+  module _ (asked : Asked) (k : asked ≡ rowAsked (ownTable a t) u giso (length lent)) (n : ℕ) (r : n ≡ askedRefusal (a .model) (length t) asked) where
     pub row-refused : 0 < n → rowOf a t u giso (length lent) ≡ refused n
     unfolding rowOf
     row-refused h = simp (← k, ← r, lt-ltb 0 n h)

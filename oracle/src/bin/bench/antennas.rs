@@ -144,16 +144,20 @@ fn rows(jant: u32, slewed: bool) {
 /// `hf_gain` or the reference.
 type Gain = fn(&[u32], &[f32], f32, f32, f32) -> u64;
 
-/// A gain asked alone, of records that set-up left.
-fn gain(jant: u32) {
+/// Records and tables that set-up left, of realistic stations.
+fn kept(jant: u32) -> Vec<Left> {
     let mut random = Random(25);
-    let kept: Vec<Left> = (0..STATIONS)
-        .map(|_| {
-            let mut left = BLANK;
-            assert!(set_up_and_row(reference::setup, reference::row_of, &accepted(&mut random, jant), &mut left));
-            left
-        })
-        .collect();
+    let one = |_| {
+        let mut left = BLANK;
+        assert!(set_up_and_row(reference::setup, reference::row_of, &accepted(&mut random, jant), &mut left));
+        left
+    };
+    (0..STATIONS).map(one).collect()
+}
+
+/// A gain asked alone.
+fn gain(jant: u32) {
+    let kept = kept(jant);
     let directions = [0, 1, 2, 3, 4, 5, 6, 7].map(|k| (5.0 + 11.0 * k as f32, 3.0 + 47.0 * k as f32));
     let call = |gain: Gain| {
         for left in &kept {
@@ -165,6 +169,17 @@ fn gain(jant: u32) {
     let calls = STATIONS * directions.len();
     let times = least(500, calls, [&mut |_| call(service::gain_of), &mut |_| call(reference::gain_of)]);
     row(&format!("a gain alone, type {jant}"), times);
+}
+
+/// A row asked alone.
+fn row_alone(jant: u32) {
+    let kept = kept(jant);
+    let call = |of: Row| {
+        let mut lent = [0.0; ROW];
+        kept.iter().for_each(|left| assert!(black_box(of)(&left.antenna, &left.table, 20.0, 10.0, &mut lent) >> 32 == 0));
+    };
+    let times = least(60, STATIONS, [&mut |_| call(service::row_of), &mut |_| call(reference::row_of)]);
+    row(&format!("a row alone, type {jant}"), times);
 }
 
 /// `hf_gains` or the reference.
@@ -204,6 +219,7 @@ pub fn run() {
     (1..=9).for_each(|jant| rows(jant, false));
     (1..=4).for_each(|jant| rows(jant, true));
     (1..=9).for_each(gain);
+    (1..=9).for_each(row_alone);
     gains();
     plate();
     println!("\n| call | preview µs | maximum gain µs | ratio |\n|---|---|---|---|");

@@ -1,10 +1,10 @@
 //! Set up once, then gains and rows: `hf_setup`, `hf_gain` and `hf_plate_row` against the source's `antinit2`, `ccirgain` and its 360
-//! gains. The records are those of the source's own state, changed ones, and made-up ones. Every lent word is compared, written or
-//! left.
+//! gains. The records are those of the source's own state, changed ones, and made-up ones; so the tables, by whose sum document 02's
+//! card 9 tells the antenna's own. Every lent word is compared, written or left.
 use crate::cases::{first_difference, hex, run};
 use crate::gains::angle;
-use oracle::antennas::{ANTENNA, FOUND};
-use oracle::expected::{ROW, TABLE};
+use oracle::antennas::{ANTENNA, FOUND, SUM};
+use oracle::expected::{table_sum, ROW, TABLE};
 use oracle::leaf::bits;
 use oracle::random::Random;
 use oracle::report::Comparison;
@@ -82,22 +82,65 @@ fn floats(random: &mut Random) -> Vec<f32> {
     (0..TABLE).map(|_| random.between(-2.0, 2.0)).collect()
 }
 
+/// With the sum of its table in the record, so that it isn't refused for that.
+fn owned(mut kept: Kept) -> Kept {
+    kept.antenna[SUM] = table_sum(&kept.table);
+    kept
+}
+
+/// A float more in one place and as much less in another, by their bits; a NaN among them may change the sum.
+fn changed_twice(random: &mut Random, table: &mut [f32]) {
+    let ([here, there], by) = ([(); 2].map(|()| records::table_place(random)), random.bits() % 0x10_0000);
+    table[here] = f32::from_bits(bits(table[here]).wrapping_add(by));
+    table[there] = f32::from_bits(bits(table[there]).wrapping_sub(by));
+}
+
+/// A table changed, or another one, which card 9 mostly notices.
+fn other_table(random: &mut Random, kept: &mut Kept) {
+    match random.below(6) {
+        0 => (kept.name, kept.table) = ("another's table", left(random).table),
+        1 => {
+            kept.table[records::table_place(random)] = random.between(-2.0, 2.0);
+            kept.name = "one float changed";
+        }
+        2 => {
+            changed_twice(random, &mut kept.table);
+            kept.name = "two floats changed";
+        }
+        3 => {
+            kept.table.resize_with(TABLE + random.pick(&[1, 17, 2821]), || f32::from_bits(random.bits()));
+            kept.name = "floats behind the table";
+        }
+        4 => {
+            kept.table[records::table_place(random)] = f32::from_bits(records::nan(random));
+            kept.name = "a NaN unsummed";
+        }
+        _ => {
+            for _ in 0..=random.below(3) {
+                kept.table[records::table_place(random)] = f32::from_bits(records::nan(random));
+            }
+            kept.antenna[SUM] = table_sum(&kept.table);
+            kept.name = "NaNs summed";
+        }
+    }
+}
+
 fn kept(random: &mut Random) -> Kept {
     let mut kept = left(random);
     match random.below(16) {
         0 => kept = Kept { name: "any words", antenna: (0..ANTENNA).map(|_| random.bits()).collect(), table: floats(random) },
-        1 | 2 => kept = Kept { name: "made up", antenna: records::made_up(random), table: floats(random) },
-        3..=6 => {
+        1 | 2 => kept = owned(Kept { name: "made up", antenna: records::made_up(random), table: floats(random) }),
+        3 | 4 => {
             let [place, word] = records::change(random);
             kept.antenna[place as usize] = word;
             kept.name = "one word changed";
         }
-        7 | 8 => kept = Kept { name: "another's table", table: left(random).table, ..kept },
-        9 => {
+        5..=9 => other_table(random, &mut kept),
+        10 => {
             kept.antenna.resize(random.pick(&[0, 1, ANTENNA - 1, ANTENNA + 1]), 1);
             kept.name = "another length";
         }
-        10 => {
+        11 => {
             kept.table.resize(random.pick(&[0, 2821, TABLE - 1, TABLE + 1]), 0.0);
             kept.name = "another table length";
         }
@@ -105,6 +148,22 @@ fn kept(random: &mut Random) -> Kept {
     }
     kept
 }
+
+/// What each comparison must meet of records and tables.
+const ORIGINS: &[&str] = &[
+    "left by set-up",
+    "any words",
+    "made up",
+    "one word changed",
+    "another's table",
+    "one float changed",
+    "two floats changed",
+    "floats behind the table",
+    "a NaN unsummed",
+    "NaNs summed",
+    "another length",
+    "another table length",
+];
 
 /// The kind of a packed answer, or the refusal.
 fn name(answer: u64, kinds: &[&str]) -> String {
@@ -127,9 +186,8 @@ fn gains_of_one(random: &mut Random, found: &mut Comparison) {
 }
 
 pub fn gains(count: u64) -> Vec<Comparison> {
-    let answers = ["level", "floor", "silence", "refused 2", "refused 3", "refused 6", "refused 8", "refused 10"];
-    let origins = ["left by set-up", "any words", "made up", "one word changed", "another's table", "another length"];
-    vec![run("hf_gain", 16, count / GAINS, gains_of_one).owing(&answers).owing(&origins)]
+    let answers = ["level", "floor", "silence", "refused 2", "refused 3", "refused 6", "refused 8", "refused 10", "refused 15"];
+    vec![run("hf_gain", 16, count / GAINS, gains_of_one).owing(&answers).owing(ORIGINS)]
 }
 
 /// The answer, then the lent row.
@@ -146,6 +204,7 @@ fn row_words(
 
 fn one_row(random: &mut Random, found: &mut Comparison) {
     let kept = kept(random);
+    found.met(kept.name);
     let asked = [broken::elevation(random), stations::giso(random)];
     let room = if random.below(30) == 0 { random.pick(&[0, 1, 359, 361, 720]) } else { ROW };
     let got = row_words(service::row_of, &kept, asked, room);
@@ -158,6 +217,6 @@ fn one_row(random: &mut Random, found: &mut Comparison) {
 }
 
 pub fn rows(count: u64) -> Vec<Comparison> {
-    let answers = ["row", "refused 2", "refused 3", "refused 6", "refused 7", "refused 8", "refused 10"];
-    vec![run("hf_plate_row", 17, count, one_row).owing(&answers)]
+    let answers = ["row", "refused 2", "refused 3", "refused 6", "refused 7", "refused 8", "refused 10", "refused 15"];
+    vec![run("hf_plate_row", 17, count, one_row).owing(&answers).owing(ORIGINS)]
 }

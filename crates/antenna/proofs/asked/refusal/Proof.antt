@@ -32,7 +32,11 @@ returns-5 c = simp (c .if5 .taken, c .before .before .if4 .left, c .before .befo
 
 returns-6 : tie.Need-returns-6
 unfolding askedRefusal
-returns-6 c = simp (c .if5 .left, c .before .before .if4 .left, c .before .before .before .before .if3 .left, ← c .before .before .before .before .before .counts-ok .ensures, c .before .before .before .before .before .before .if2 .left, ← c .before .before .before .before .before .before .before .type-ok .ensures, c .before .before .before .before .before .before .before .before .if1 .left)
+returns-6 c = simp (c .if6 .taken, c .before .before .if5 .left, c .before .before .before .before .if4 .left, c .before .before .before .before .before .before .if3 .left, ← c .before .before .before .before .before .before .before .counts-ok .ensures, c .before .before .before .before .before .before .before .before .if2 .left, ← c .before .before .before .before .before .before .before .before .before .type-ok .ensures, c .before .before .before .before .before .before .before .before .before .before .if1 .left)
+
+returns-7 : tie.Need-returns-7
+unfolding askedRefusal
+returns-7 c = simp (c .if6 .left, c .before .before .if5 .left, c .before .before .before .before .if4 .left, c .before .before .before .before .before .before .if3 .left, ← c .before .before .before .before .before .before .before .counts-ok .ensures, c .before .before .before .before .before .before .before .before .if2 .left, ← c .before .before .before .before .before .before .before .before .before .type-ok .ensures, c .before .before .before .before .before .before .before .before .before .before .if1 .left)
 
 pub refusal-spec : {M : Type 1} → statement M
 refusal-spec =
@@ -45,4 +49,5 @@ refusal-spec =
     returns-3
     returns-4
     returns-5
-    returns-6)
+    returns-6
+    returns-7)

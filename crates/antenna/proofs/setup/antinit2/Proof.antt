@@ -5,6 +5,7 @@ use mathlib.Core.Path.{_≡_, sym, ap, _∙_}
 use native.Mathlib.Omega.{arith}
 use lib.ListN.{length}
 use Rattle.answers.specs.Refusals.{PATTERN}
+use Rattle.antenna.specs.TableSum.{tableSum}
 use Rattle.antenna.specs.SetUp.{besideOf}
 use Rattle.antenna.proofs.setup.Accepted.{accepted-limits, refused-lent, beside-refusal, accepted-lent, set-up-refused, set-up-found, found-refused, found-accepted}
 use Rattle.antenna.proofs.setup.antinit2.Statement.{statement}
@@ -76,15 +77,21 @@ lay-over-requires c κs =
     let ok = accepted-limits _ _ _ (sym (asked .before .refusal .ensures) ∙ n) in
     omega (arith, ok .1, c .before .before .before .before .before .before .before .table-of .ok)
 
+slice-aggregate-sum-of : tie.Need-slice-aggregate-sum-of
+slice-aggregate-sum-of c = search needs
+
+sum-of-requires : tie.Need-sum-of-requires
+sum-of-requires c κs = search needs
+
 accept-requires : tie.Need-accept-requires
-accept-requires c κs = search needs
+accept-requires c κs = c .sum-of .ensures ∙ ap tableSum (c .before .before .before .before .before .before .before .before .before .before .before .before .table-of .ensures)
 
 same-length : tie.Need-same-length
 same-length c = search needs
 
 returns-3 : tie.Need-returns-3
 returns-3 c =
-    let search = c .before .before .before .before .before .before .before .before in
+    let search = c .before .before .before .before .before .before .before .before .before .before in
     let asked = search .before .before .before .before .before in
     let p = asked .before .before .before .before .args .t1 in
     let lent = now (asked .before .before .before .before .args .lent) in
@@ -92,8 +99,8 @@ returns-3 c =
     set-up-found p (length lent) _ _ (asked .before .before .jant .ensures) (asked .before .refusal .ensures)
     _ (search .gainorm .result) (asked .if1 .left) (search .before .before .before .before .model-of .ensures .0)
     (rw (search .gainorm .ensures, search .before .before .before .table-of .ensures, search .before .start-of .ensures)) in
-    let r = s ∙ found-accepted _ _ _ (c .before .before .before .before .before .before .before .search-refused .ensures) (c .before .before .before .before .before .before .if2 .left) in
-    (c .accept .ensures .0 ∙ sym r, (c .before .before .before .lay-over .ensures ∙ accepted-lent p lent _ _ _ (search .before .before .before .table-of .ensures) r, c .accept .ensures .1 ∙ sym (ap besideOf r)))
+    let r = s ∙ found-accepted _ _ _ (c .before .before .before .before .before .before .before .before .before .search-refused .ensures) (c .before .before .before .before .before .before .before .before .if2 .left) in
+    (c .accept .ensures .0 ∙ sym r, (c .before .before .before .before .before .lay-over .ensures ∙ accepted-lent p lent _ _ _ (search .before .before .before .table-of .ensures) r, c .accept .ensures .1 ∙ sym (ap besideOf r)))
 
 pub antinit2-spec : {M : Type 1} → statement M
 antinit2-spec =
@@ -114,6 +121,8 @@ antinit2-spec =
     returns-2
     slice-aggregate-lay-over
     lay-over-requires
+    slice-aggregate-sum-of
+    sum-of-requires
     accept-requires
     same-length
     returns-3)

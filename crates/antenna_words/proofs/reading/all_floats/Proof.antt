@@ -18,7 +18,7 @@ read-bits-requires c κs = search needs
 returns : tie.Need-returns
 returns c =
     let words = c .before .before .before .before .args .words .now in
-    c .before .read-bits .ensures ∙ take-all 997 (floats words) (omega (arith, length-map words (ofBits binary32)))
+    c .before .read-bits .ensures ∙ take-all 998 (floats words) (omega (arith, length-map words (ofBits binary32)))
 
 pub all-floats-spec : {M : Type 1} → statement M
 all-floats-spec = tie.close (tie.spec slice-aggregate-read-bits read-bits-requires returns)

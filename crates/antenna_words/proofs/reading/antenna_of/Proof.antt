@@ -31,9 +31,12 @@ floats-3-requires c κs = search needs
 peak-of-requires : tie.Need-peak-of-requires
 peak-of-requires c κs = search needs
 
+shared-slice-read-t11-2 : tie.Need-shared-slice-read-t11-2
+shared-slice-read-t11-2 c = search needs
+
 returns : tie.Need-returns
 unfolding antennaOf
-returns c = rw (c .peak-of .ensures, c .before .floats-3 .ensures, c .before .before .before .before .ground-of .ensures, c .before .before .before .before .before .trig-of .ensures, c .before .before .before .before .before .before .elements-of .ensures, c .before .before .before .before .before .before .before .constants-of .ensures, c .before .before .before .before .before .before .before .before .floats-16 .ensures)
+returns c = rw (c .before .peak-of .ensures, c .before .before .floats-3 .ensures, c .before .before .before .before .before .ground-of .ensures, c .before .before .before .before .before .before .trig-of .ensures, c .before .before .before .before .before .before .before .elements-of .ensures, c .before .before .before .before .before .before .before .before .constants-of .ensures, c .before .before .before .before .before .before .before .before .before .floats-16 .ensures)
 
 pub antenna-of-spec : {M : Type 1} → statement M
 antenna-of-spec =
@@ -48,4 +51,5 @@ antenna-of-spec =
     shared-slice-read-t13
     floats-3-requires
     peak-of-requires
+    shared-slice-read-t11-2
     returns)

@@ -3,11 +3,11 @@ use mathlib.Core.Path.{_≡_, refl, ap, _∙_}
 use Prim.Native.Nat.{ℕ}
 use mathlib.Core.List.{List, [], _∷_, _++_, append-assoc, append-nil}
 use native.Mathlib.Omega.{arith}
-use lib.ListN.{length, length-append}
+use lib.ListN.{length, set, length-append, length-set}
 use Rattle.words.specs.Patterns.{bits}
 use Rattle.words.specs.Writing.{Wrote}
 use Rattle.words.proofs.Writing.{then}
-use Rattle.words.proofs.Laid.{laid-whole}
+use Rattle.words.proofs.Laid.{laid-one, laid-whole}
 use Rattle.antenna.specs.declared.record.Antenna.{Antenna}
 use Rattle.antenna_words.specs.Fields.{joined, flag, constantFloats, headFields, elementFields, trigFields, groundFields, peakFields, antennaFields, antennaWords}
 use Rattle.antenna_words.specs.Held.{Held}
@@ -18,7 +18,7 @@ use borrow.Author.Needs.{needs}
 use Rattle.antenna_words.proofs.writing.put_antenna.Statement.{statement}
 use Rattle.antenna_words.proofs.writing.put_antenna.Tie as tie
 
--- the four parts
+-- the five parts
 abbrev head : Antenna → List ℕ
 head a = (a .model .iant ∷ flag (a .model .slewed) ∷ []) ++ bits (constantFloats (a .model .constants))
 
@@ -31,7 +31,10 @@ tables a = joined (trigFields (a .model .trig)) ++ joined (groundFields (a .mode
 abbrev peak : Antenna → List ℕ
 peak a = bits (a .peak .z6 ∷ a .peak .umax ∷ a .peak .vmax ∷ [])
 
-all-parts : (a : Antenna) → head a ++ (elements a ++ (tables a ++ peak a)) ≡ antennaWords a
+abbrev sum : Antenna → List ℕ
+sum a = a .sum ∷ []
+
+all-parts : (a : Antenna) → head a ++ (elements a ++ (tables a ++ (peak a ++ sum a))) ≡ antennaWords a
 unfolding joined headFields elementFields trigFields groundFields peakFields antennaFields antennaWords
 all-parts a = simp (append-assoc, append-nil)
 
@@ -47,8 +50,16 @@ put-tables-requires c κs = search needs
 put-peak-requires : tie.Need-put-peak-requires
 put-peak-requires c κs = search needs
 
+slice-write-out : tie.Need-slice-write-out
+slice-write-out c = search needs
+
 same-length : tie.Need-same-length
-same-length c = search needs
+same-length c =
+    let fourth = c .before .before in
+    let third = fourth .before .before .before .before in
+    let second = third .before .before .before .before in
+    let first = second .before .before .before .before in
+    simp length-set (omega (arith, fourth .put-peak .kept .0, third .put-tables .kept .0, second .put-elements .kept .0, first .put-head .kept .0))
 
 returns : tie.Need-returns
 returns c =
@@ -73,8 +84,11 @@ returns c =
     let s : Wrote (third .put-tables .last .0) 994 (peak a) (fourth .put-peak .last .0) 997 = record { bytes = fourth .put-peak .ensures .0; after = refl } in
     let k : length (first .put-head .last .0) ≡ length out = first .put-head .kept .0 in
     let l : length (second .put-elements .last .0) ≡ length (first .put-head .last .0) = second .put-elements .kept .0 in
-    let w = then p (then q (then r s (omega (arith, k, l, start .pre))) (omega (arith, k, start .pre))) (omega (arith, start .pre)) in
-    let e : fourth .put-peak .last .0 ≡ antennaWords a = w .bytes ∙ laid-whole out (head a ++ (elements a ++ (tables a ++ peak a))) (omega (arith, w .after, start .pre)) ∙ all-parts a in
+    let m : length (third .put-tables .last .0) ≡ length (second .put-elements .last .0) = third .put-tables .kept .0 in
+    let n : length (fourth .put-peak .last .0) ≡ length (third .put-tables .last .0) = fourth .put-peak .kept .0 in
+    let z : Wrote (fourth .put-peak .last .0) 997 (sum a) (set (fourth .put-peak .last .0) 997 (a .sum)) 998 = record { bytes = laid-one (fourth .put-peak .last .0) 997 (a .sum) (omega (arith, k, l, m, n, start .pre)); after = refl } in
+    let w = then p (then q (then r (then s z (omega (arith, k, l, m, start .pre))) (omega (arith, k, l, start .pre))) (omega (arith, k, start .pre))) (omega (arith, start .pre)) in
+    let e : set (fourth .put-peak .last .0) 997 (a .sum) ≡ antennaWords a = w .bytes ∙ laid-whole out (head a ++ (elements a ++ (tables a ++ (peak a ++ sum a)))) (omega (arith, w .after, start .pre)) ∙ all-parts a in
     (e, λ n. ap antennaIn e ∙ antenna-in-words a held n)
 
 pub put-antenna-spec : {M : Type 1} → statement M
@@ -85,5 +99,6 @@ put-antenna-spec =
     put-elements-requires
     put-tables-requires
     put-peak-requires
+    slice-write-out
     same-length
     returns)

@@ -6,6 +6,8 @@ use native.Mathlib.Omega.{arith}
 use borrow.Author.Needs.{needs}
 use lib.ListN.{length, length-append}
 use Rattle.service.specs.Lists.{left}
+use Rattle.antenna.specs.TableSum.{ownTable}
+use Rattle.antenna.proofs.Answered.{own-after-set-up}
 use Rattle.words.specs.Laid.{laid}
 use Rattle.service.specs.Search.{searchWords}
 use Rattle.service.specs.Gains.{gainsTo, gainsLeft}
@@ -31,7 +33,13 @@ put-search-requires : tie.Need-put-search-requires
 put-search-requires c κs = search needs
 
 put-gains-requires : tie.Need-put-gains-requires
-put-gains-requires c κs = search needs
+put-gains-requires c κs =
+    let found = c .before .before .before .before in
+    let s = found .before .before .before .before .before .before .before .before in
+    let a = s .before .before .before .before .before .args in
+    let told = found .before .before .before .answer2 .given in
+    let h = sym (s .antinit2 .ensures .0) ∙ ready (s .antinit2 .result) (told .0 .0) (told .1) in
+    (search needs, ap (ownTable (s .antinit2 .result .antenna)) (s .antinit2 .ensures .1 .0) ∙ own-after-set-up (a .parm) (a .table .now) h)
 
 same-length : tie.Need-same-length
 same-length c = search needs

@@ -1,5 +1,5 @@
 -- `put_gains` answers one direction a turn, in two words.
-use mathlib.Core.Path.{_≡_, refl, ap, _∙_}
+use mathlib.Core.Path.{_≡_, refl, sym, ap, _∙_}
 use Prim.Native.Nat.{ℕ, _+_, _*_, _/_, _≤_, _-_}
 use native.Mathlib.Omega.{arith}
 use native.Mathlib.Numerals.{add-one}
@@ -29,23 +29,23 @@ loop-holds c =
 mul-i : tie.Need-mul-i Inv-loop μ-loop
 mul-i c = omega arith
 
-mul-ccirgain : tie.Need-mul-ccirgain Inv-loop μ-loop
-mul-ccirgain c = omega arith
+mul-gain-told : tie.Need-mul-gain-told Inv-loop μ-loop
+mul-gain-told c = omega arith
 
-shared-slice-read-ccirgain : tie.Need-shared-slice-read-ccirgain Inv-loop μ-loop
-shared-slice-read-ccirgain c = omega arith
+shared-slice-read-gain-told : tie.Need-shared-slice-read-gain-told Inv-loop μ-loop
+shared-slice-read-gain-told c = omega arith
 
-add-ccirgain : tie.Need-add-ccirgain Inv-loop μ-loop
-add-ccirgain c = omega arith
+add-gain-told : tie.Need-add-gain-told Inv-loop μ-loop
+add-gain-told c = omega arith
 
-mul-ccirgain-2 : tie.Need-mul-ccirgain-2 Inv-loop μ-loop
-mul-ccirgain-2 c = omega arith
+mul-gain-told-2 : tie.Need-mul-gain-told-2 Inv-loop μ-loop
+mul-gain-told-2 c = omega arith
 
-shared-slice-read-ccirgain-2 : tie.Need-shared-slice-read-ccirgain-2 Inv-loop μ-loop
-shared-slice-read-ccirgain-2 c = omega arith
+shared-slice-read-gain-told-2 : tie.Need-shared-slice-read-gain-told-2 Inv-loop μ-loop
+shared-slice-read-gain-told-2 c = omega arith
 
-ccirgain-requires : tie.Need-ccirgain-requires Inv-loop μ-loop
-ccirgain-requires c κs = search needs
+gain-told-requires : tie.Need-gain-told-requires Inv-loop μ-loop
+gain-told-requires c κs = sym (c .before .before .before .before .before .before .before .pre .1)
 
 add-put-gain : tie.Need-add-put-gain Inv-loop μ-loop
 add-put-gain c = omega arith
@@ -75,7 +75,7 @@ loop-again c =
     let done = gainsTo (a .ant) (a .table .now) (a .giso) (a .directions .now) k in
     let next = gainWords (gainOf (a .ant) (a .table .now) (at (a .directions .now) (2 * k)) (at (a .directions .now) (2 * k + 1)) (a .giso)) in
     let n = gains-length (a .ant) (a .table .now) (a .giso) (a .directions .now) k in
-    (omega arith, head .loop .inv .1, rw (add-one, c .before .before .put-gain .ensures, c .before .before .before .before .ccirgain .ensures, head .loop .inv .2) (laid-more (a .out .now) 4 (4 + 2 * k) done next (omega arith) (omega arith)))
+    (omega arith, head .loop .inv .1, rw (add-one, c .before .before .put-gain .ensures, c .before .before .before .before .gain-told .ensures, head .loop .inv .2) (laid-more (a .out .now) 4 (4 + 2 * k) done next (omega arith) (omega arith)))
 
 same-length : tie.Need-same-length Inv-loop μ-loop
 same-length c = room (c .before)
@@ -95,12 +95,12 @@ put-gains-spec =
     μ-loop
     loop-holds
     mul-i
-    mul-ccirgain
-    shared-slice-read-ccirgain
-    add-ccirgain
-    mul-ccirgain-2
-    shared-slice-read-ccirgain-2
-    ccirgain-requires
+    mul-gain-told
+    shared-slice-read-gain-told
+    add-gain-told
+    mul-gain-told-2
+    shared-slice-read-gain-told-2
+    gain-told-requires
     add-put-gain
     put-gain-requires
     add-k
