@@ -52,7 +52,7 @@ fn edited(text: String) -> String {
     let f2 = "fn f2(ant: &Curtain, theta: R, phi: R) -> R {";
     text = replaced(text, f2, &format!("{f2}\n        super::super::read();"), 1);
     let (search, end) = (text.find("fn azmax(").unwrap(), text.find("pub fn ccirgain(").unwrap());
-    let told = replaced(text[search..end].to_string(), "self.gainrel(u, v)", "super::met(self.gainrel(u, v))", 3);
+    let told = replaced(text[search..end].to_string(), "self.gainrel(u, v)", "super::met(u, v, self.gainrel(u, v))", 3);
     format!("{}{told}{}", &text[..search], &text[end..])
 }
 

@@ -1,7 +1,7 @@
 //! What document 01 expects of each call: the source's answer, and before it the refusals, lowest number first.
 use super::source::antenna::AntennaFile;
 use super::source::ccir::{antinit2, curtain, setmaxgain, CcirAntenna};
-use super::source::{take_factor, take_pattern_readings, take_readings};
+use super::source::{take_factor, take_pattern_readings, take_readings, Reading};
 use crate::antennas::SUM;
 
 pub type Refusal = u32;
@@ -155,10 +155,11 @@ pub fn curtain_levels(parm: &Parm, factor: f32, directions: &[f32], room: usize)
     Ok((levels, integral + room as u32))
 }
 
-/// An accepted set-up.
+/// An accepted set-up, with what its search read.
 pub struct Antenna {
     record: CcirAntenna,
     pub count: u32,
+    pub readings: Vec<Reading>,
 }
 
 impl Antenna {
@@ -228,7 +229,7 @@ pub fn set_up(parm: &Parm, room: usize) -> Result<Antenna, Refusal> {
     let readings = take_readings();
     let peak_finite = !any_not_finite(&[record.z6, record.umax, record.vmax]);
     refuse_if(!readings.finite || !peak_finite, PATTERN)?;
-    Ok(Antenna { record, count: readings.count })
+    Ok(Antenna { record, count: readings.count, readings: readings.list })
 }
 
 /// A gain's case and number.

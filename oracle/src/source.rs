@@ -54,14 +54,22 @@ mod elementary {
     }
 }
 
-/// What the search read: how often it called `gainrel`, and whether every gain was finite.
+/// A gain that the search read, and where.
 #[derive(Clone, Copy)]
+pub struct Reading {
+    pub elevation: f32,
+    pub azimuth: f32,
+    pub gain: f32,
+}
+
+/// What the search read: how often it called `gainrel`, whether every gain was finite, and each in its order.
 pub struct Readings {
     pub count: u32,
     pub finite: bool,
+    pub list: Vec<Reading>,
 }
 
-const NONE: Readings = Readings { count: 0, finite: true };
+const NONE: Readings = Readings { count: 0, finite: true, list: Vec::new() };
 
 thread_local! {
     static READINGS: RefCell<Readings> = const { RefCell::new(NONE) };
@@ -73,10 +81,11 @@ pub fn take_readings() -> Readings {
 }
 
 /// A gain on its way to the search.
-fn met(gain: f32) -> f32 {
+fn met(elevation: f32, azimuth: f32, gain: f32) -> f32 {
     READINGS.with_borrow_mut(|r| {
         r.count += 1;
         r.finite &= gain.is_finite();
+        r.list.push(Reading { elevation, azimuth, gain });
     });
     gain
 }

@@ -16,6 +16,20 @@ use Rattle.antenna.specs.Row.{larger, greatestOf, greatest}
 use Rattle.antenna.specs.Greatest.{IsGreatest}
 use Rattle.antenna.proofs.Strict.{le-itself, lt-le, le-of-not-lt, not-lt-of-le}
 
+-- the larger of two finite numbers is finite, and neither is above it
+pub record Larger (x y z : Float) : Type 0 where
+  pub real : T (finite z)
+  pub left : T (le x z)
+  pub right : T (le y z)
+
+pub larger-bounds : (x y : Float) → T (finite x) → T (finite y) → Larger x y (larger x y)
+unfolding larger
+larger-bounds x y p q = go (lt x y) refl
+  where
+    go : (b : Bool) → lt x y ≡ b → Larger x y (cond b y x)
+    go true e = record { real = q; left = lt-le x y e; right = le-itself y q }
+    go false e = record { real = p; left = le-itself x p; right = le-of-not-lt x y p q e }
+
 not-larger : (x y : Float) → lt x y ≡ false → larger x y ≡ x
 unfolding larger
 not-larger x y h = rw h

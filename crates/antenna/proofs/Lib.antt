@@ -15,4 +15,7 @@ pub mod RowGains
 mod Granted
 pub mod Outcomes
 pub mod ReadingCount
+pub mod Peak
+mod LevelBounds
+pub mod PeakNumbers
 pub mod WhyNumber

@@ -13,7 +13,7 @@ use Rattle.floats.specs.Ops.{_⊘_, +0}
 use Rattle.antenna.specs.Gain.{floored, ratioLevel, decibelsOf, graded}
 
 -- neither below 0 nor 0
-no-sign : (s : Bool) (m : ℕ) (e : ℤ) → lt (fin s m e) +0 ≡ false → eq (fin s m e) +0 ≡ false → s ≡ false
+pub no-sign : (s : Bool) (m : ℕ) (e : ℤ) → lt (fin s m e) +0 ≡ false → eq (fin s m e) +0 ≡ false → s ≡ false
 unfolding lt eq ofBits
 no-sign false m e l n = refl
 no-sign true m e l n =

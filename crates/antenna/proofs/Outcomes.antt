@@ -65,6 +65,25 @@ module _ (p : List Float) (size : ℕ) where
   unfolding acceptedOf
   accepted-readings h = ap (λ (w : Antenna × ℕ). w .1) (same (sym h ∙ accepted-when (accepted-only-when h)))
 
+  pub accepted-peak : {a : Antenna} {n : ℕ} → setUpOf p size ≡ accepted (a, n) → a .peak ≡ searchOf .peak
+  unfolding acceptedOf
+  accepted-peak h = ap (λ (w : Antenna × ℕ). w .0 .peak) (same (sym h ∙ accepted-when (accepted-only-when h)))
+
+  -- every gain that the search met was finite, and so is what it found
+  pub record Sound : Type 0 where
+    pub sound : searchOf .tally .sound ≡ true
+    pub z6 : finite (searchOf .peak .z6) ≡ true
+    pub umax : finite (searchOf .peak .umax) ≡ true
+
+  pub accepted-sound : {a : Antenna × ℕ} → setUpOf p size ≡ accepted a → Sound
+  unfolding searchRefused
+  accepted-sound h =
+      let found = searchOf .peak in
+      let all = both (searchOf .tally .sound && finite (found .z6) && finite (found .umax)) (finite (found .vmax)) (not-false _ (accepted-only-when h .search)) .0 in
+      let two = both (searchOf .tally .sound && finite (found .z6)) (finite (found .umax)) all in
+      let first = both (searchOf .tally .sound) (finite (found .z6)) (two .0) in
+      record { sound = first .0; z6 = first .1; umax = two .1 }
+
 -- ---- gain and row
 
 pub accepted-gain-finite : (a : Antenna) (t : List Float) (u v giso : Float) {k : Kind} {g : Float} → gainOf a t u v giso ≡ accepted (k, g) → finite g ≡ true

@@ -11,7 +11,6 @@ use lib.Ieee.{Float, lt, le, ne, toSigned, ofBits}
 use Rattle.floats.specs.Ops.{_⊕_, _⊖_, _⊘_, count, +0}
 use Rattle.floats.specs.Literals.{one, two, ten, ninety}
 use Rattle.model.specs.declared.record.Model.{Model}
-use Rattle.pattern.specs.Gainrel.{gainRel}
 use Rattle.floats.specs.Ranges.{between}
 use Rattle.floats.proofs.Tests.{both}
 use Rattle.model.specs.Limits.{slot}
@@ -22,7 +21,8 @@ use Rattle.antenna.specs.Limits.{startOf, startOk, aimOk}
 use Rattle.antenna.specs.SetUp.{slewedOf, modelOf, setUpOf}
 use Rattle.antenna.specs.Whole.{nonZero}
 use Rattle.antenna.specs.declared.record.Antenna.{Antenna}
-use Rattle.antenna.specs.Search.{untold, tallied, turns, plateauCentre, azmaxRead, turnsIn, azmaxTurn, azmaxOf, sweepRead, sweepTurn, sweepOf, planeElevation, planeOf, planeSearched, aimOf, elevationRead, elevationsTo, refinedOf, unrefined, lastSearched, gainormOf}
+use Rattle.antenna.specs.Search.{untold, tallied, plateauCentre, azmaxRead, turnsIn, azmaxDirections, azmaxOf, sweepRead, sweepOf, planeElevation, planeOf, planeSearched, aimOf, elevationDirections, elevationsOf, raisedOf, refinedOf, unrefined, lastSearched, gainormOf}
+use Rattle.antenna.specs.Turns.{turns, azmaxTurn, sweepTurn}
 use Rattle.antenna.specs.declared.record.Peak.{Peak}
 use Rattle.antenna.specs.declared.search.Azimuths.{Azimuths}
 use Rattle.antenna.specs.declared.search.Aimed.{Aimed}
@@ -31,10 +31,12 @@ use Rattle.antenna.specs.declared.search.Tally.{Tally}
 use Rattle.floats.proofs.Halves.{Between, Whole, whole-between, count-between, add-between, sub-between, over-between, wider, bounded, around-cut}
 use Rattle.antenna.proofs.Outcomes.{accepted-only-when, accepted-readings}
 use Rattle.antenna.proofs.setup.Accepted.{accepted-limits}
-use Rattle.antenna.proofs.search.Readings.{azmax-reads}
+use Rattle.antenna.proofs.search.Passes.{azimuths-length, elevations-length}
+use Rattle.antenna.proofs.search.Rules.{azmax-counts, elevations-count}
+use Rattle.antenna.proofs.search.Turns.{azmax-turned, sweep-turned}
 
 -- ---- the source's whole numbers
-one-whole : Whole 1 one
+pub one-whole : Whole 1 one
 unfolding ofBits
 one-whole = record { real = tt; count = refl; clear = refl; unit = refl }
 
@@ -42,7 +44,7 @@ two-whole : Whole 2 two
 unfolding ofBits
 two-whole = record { real = tt; count = refl; clear = refl; unit = refl }
 
-five-whole : Whole 5 five
+pub five-whole : Whole 5 five
 unfolding ofBits
 five-whole = record { real = tt; count = refl; clear = refl; unit = refl }
 
@@ -55,18 +57,18 @@ unfolding ofBits
 west-whole = record { real = tt; count = refl; clear = refl; unit = refl }
 
 -- ---- the turns of a pass around v
-abbrev turnsAround : Float → Float → ℕ
+abbrev pub turnsAround : Float → Float → ℕ
 turnsAround w v = turnsIn ((v ⊕ w ⊖ (v ⊖ w) ⊕ one) ⊘ one)
 
 -- from -50 to 500
-abbrev Azimuth : Float → Type 0
+abbrev pub Azimuth : Float → Type 0
 Azimuth v = Between 100 1200 v
 
 turns-10 : (v : Float) → Azimuth v → turnsAround ten v ≤ 21
 unfolding turnsIn
 turns-10 v r = around-cut 31 ten-whole one-whole (omega arith) (omega arith) (omega arith) (omega arith) r
 
-turns-5 : (v : Float) → Azimuth v → turnsAround five v ≤ 11
+pub turns-5 : (v : Float) → Azimuth v → turnsAround five v ≤ 11
 unfolding turnsIn
 turns-5 v r = around-cut 31 five-whole one-whole (omega arith) (omega arith) (omega arith) (omega arith) r
 
@@ -97,18 +99,18 @@ sweep-step z9 i s l h =
     }
 
 sweep-counted : (m : Model) (t : List Float) (u vmax : Float) → Between 200 920 vmax → Swept 19 (sweepOf m t u vmax)
-unfolding sweepOf sweepTurn untold
+unfolding sweepTurn untold
 sweep-counted m t u vmax r =
-    kept Swept (sweepTurn m t u) 19 (λ i s l h. sweep-step _ i s l h) _
-    (record { readings = refl; next = whole-between west-whole; best = wider r 200 1100 (omega arith) (omega arith) })
+    rw sweep-turned
+    (kept Swept (sweepTurn m t u) 19 (λ i s l h. sweep-step _ i s l h) _
+    (record { readings = refl; next = whole-between west-whole; best = wider r 200 1100 (omega arith) (omega arith) }))
 
 -- ---- an azimuth pass reads as often as it turns
 azmax-counted : (m : Model) (t : List Float) (u vmin1 vmax1 vm rmax0 vmax0 : Float) (n : Tally)
     → azmaxOf m t u vmin1 vmax1 vm rmax0 vmax0 n .tally .readings ≡ n .readings + turnsIn ((vmax1 ⊖ vmin1 ⊕ vm) ⊘ vm)
-unfolding azmaxOf azmaxTurn
+unfolding azmaxDirections
 azmax-counted m t u vmin1 vmax1 vm rmax0 vmax0 n =
-    kept (λ (i : ℕ) (s : Azimuths). s .tally .readings ≡ n .readings + i) (azmaxTurn m t u vm) _
-    (λ i s l h. omega (arith, azmax-reads s vm (gainRel m t u (s .v)) .counted, h)) _ (omega arith)
+    omega (arith, azmax-counts m t u vmin1 vmax1 vm rmax0 vmax0 n, azimuths-length u vmin1 vm (turnsIn ((vmax1 ⊖ vmin1 ⊕ vm) ⊘ vm)))
 
 -- ---- the first azimuth pass hands on an azimuth of the range
 record Around (i : ℕ) (s : Azimuths) : Type 0 where
@@ -135,12 +137,13 @@ around-step z9 i s l h =
 
 pass-around : (m : Model) (t : List Float) (u rmax v : Float) (n : Tally) → Between 200 1100 v
     → Around (turnsAround ten v) (azmaxOf m t u (v ⊖ ten) (v ⊕ ten) one rmax v n)
-unfolding azmaxOf azmaxTurn
+unfolding azmaxTurn
 pass-around m t u rmax v n r =
     let a = wider r 100 1200 (omega arith) (omega arith) in
     let few = turns-10 v a in
-    kept Around (azmaxTurn m t u one) (turnsAround ten v) (λ i s l h. around-step _ i s (omega (arith, few)) h) _
-    (record { plateau = omega arith; next = sub-between r (whole-between ten-whole) 180 1080 (omega arith) (omega arith) (omega arith) (omega arith); best = a })
+    rw azmax-turned
+    (kept Around (azmaxTurn m t u one) (turnsAround ten v) (λ i s l h. around-step _ i s (omega (arith, few)) h) _
+    (record { plateau = omega arith; next = sub-between r (whole-between ten-whole) 180 1080 (omega arith) (omega arith) (omega arith) (omega arith); best = a }))
 
 -- ---- `gainorm`, the horizontal plane searched: 19 readings, at most 21, 90 and at most 11
 record Counted (a : Aimed) : Type 0 where
@@ -162,10 +165,9 @@ plane-counted m t vmax r =
       aim = pass-around m t u (s .rmax) (s .vmax) (s .tally) (h .best) .best;
     }
 
-elevation-readings : (m : Model) (t : List Float) (v : Float) (e : Elevations) (n : ℕ) → elevationsTo m t v e n .tally .readings ≡ e .tally .readings + n
-unfolding elevationsTo elevationRead tallied
-elevation-readings m t v e zero = omega arith
-elevation-readings m t v e (suc n) = omega (arith, elevation-readings m t v e n)
+elevation-readings : (m : Model) (t : List Float) (v : Float) (e : Elevations) → elevationsOf m t v e .tally .readings ≡ e .tally .readings + 90
+unfolding elevationDirections
+elevation-readings m t v e = omega (arith, elevations-count m t v e, elevations-length v 0 90)
 
 abbrev Parts : ℕ → Type 0
 Parts n = (first : ℕ) × (last : ℕ) × (first ≤ 21) × (last ≤ 11) × (n ≡ 19 + first + 90 + last)
@@ -173,23 +175,23 @@ Parts n = (first : ℕ) × (last : ℕ) × (first ≤ 21) × (last ≤ 11) × (n
 module _ (m : Model) (t : List Float) (start : Peak) where
   searched-parts : Between 200 920 (start .vmax) → planeSearched (m .iant) (m .slewed) ≡ true → lastSearched (m .iant) (m .slewed) ≡ true
       → Parts (gainormOf m t start .tally .readings)
-  unfolding gainormOf aimOf refinedOf
+  unfolding gainormOf raisedOf aimOf refinedOf
   searched-parts r p l =
       let a = planeOf m t (start .vmax) in
       let h = plane-counted m t (start .vmax) r in
       let e₀ : Elevations = record { wmx = +0; umax = start .umax; tally = a .tally } in
-      let e = elevationsTo m t (a .vmax) e₀ 90 in (
+      let e = elevationsOf m t (a .vmax) e₀ in (
         h .first,
         turnsAround five (a .vmax),
         h .few,
         turns-5 (a .vmax) (h .aim),
         rw (l, p)
-            (omega (arith, azmax-counted m t (e .umax) (a .vmax ⊖ five) (a .vmax ⊕ five) one (e .wmx) (a .vmax) (e .tally), elevation-readings m t (a .vmax) e₀ 90, h .readings)),
+            (omega (arith, azmax-counted m t (e .umax) (a .vmax ⊖ five) (a .vmax ⊕ five) one (e .wmx) (a .vmax) (e .tally), elevation-readings m t (a .vmax) e₀, h .readings)),
       )
 
   elevations-alone : planeSearched (m .iant) (m .slewed) ≡ false → lastSearched (m .iant) (m .slewed) ≡ false → gainormOf m t start .tally .readings ≡ 90
-  unfolding gainormOf aimOf unrefined untold
-  elevations-alone p l = rw (l, p) (elevation-readings m t +0 _ 90)
+  unfolding gainormOf raisedOf aimOf unrefined untold
+  elevations-alone p l = rw (l, p) (elevation-readings m t +0 _)
 
 -- ---- the antennas that set-up accepts
 and-false : (b : Bool) → (b && false) ≡ false
@@ -228,6 +230,13 @@ module _ (p : List Float) (size : ℕ) {a : Antenna} {readings : ℕ} (h : setUp
       let aim = both (startOk (startOf iant p)) _ (accepted-limits iant p size (accepted-only-when p size h .limits) .3) .0 in
       let ends = both (le +0 v) _ (both (between (startOf iant p .umax) +0 ninety) _ aim .1) in
       bounded zero-whole circle-whole v (subst T (sym (ends .0)) tt) (subst T (sym (ends .1)) tt)
+
+  -- the azimuth of the elevation pass
+  pub aim-in : (t : List Float) → Azimuth (aimOf (modelOf iant p) t (startOf iant p .vmax) .vmax)
+  unfolding aimOf
+  aim-in t =
+      either (λ (a : Aimed). Azimuth (a .vmax)) (planeSearched (modelOf iant p .iant) (modelOf iant p .slewed)) (plane-counted (modelOf iant p) t (startOf iant p .vmax) start-in .aim)
+      (wider (whole-between zero-whole) 100 1200 (omega arith) (omega arith))
 
   pub searched-readings : lastSearched iant (slewedOf iant p) ≡ true → Parts readings
   unfolding modelOf

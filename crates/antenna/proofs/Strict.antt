@@ -1,12 +1,12 @@
 -- Of finite floats: one is below another just where the other isn't at most the one. Assumes nothing.
-use mathlib.Core.Path.{_≡_, refl}
-use mathlib.Core.Bool.{true, false}
+use mathlib.Core.Path.{_≡_, refl, sym, subst}
+use mathlib.Core.Bool.{Bool, true, false, _||_}
 use Prim.Native.Nat.{_+_, _*_}
 use native.Mathlib.Nat.{le-refl}
 use native.Mathlib.Omega.{arith}
 use borrow.Author.Tests.{ltb-false, le-ltb}
 use lib.Dec.{T}
-use lib.Ieee.{Float, nan, inf, fin, up, down, lt, le}
+use lib.Ieee.{Float, nan, inf, fin, up, down, lt, le, eq}
 use lib.Ieee.Scale.{finite}
 use Rattle.floats.proofs.Order.{le-said, le-told}
 
@@ -16,6 +16,14 @@ le-itself x p = le-told x x p p (le-refl _)
 pub lt-le : (x y : Float) → lt x y ≡ true → T (le x y)
 unfolding le
 lt-le x y h = rw h tt
+
+pub eq-le : (x y : Float) → eq x y ≡ true → T (le x y)
+unfolding le
+eq-le x y e = go (lt x y)
+  where
+    go : (b : Bool) → T (b || eq x y)
+    go true = tt
+    go false = subst T (sym e) tt
 
 pub le-of-not-lt : (x y : Float) → T (finite x) → T (finite y) → lt x y ≡ false → T (le y x)
 unfolding lt
@@ -38,3 +46,10 @@ not-lt-of-le (fin false m e) (fin false n d) p q h = le-ltb (m * up e * down d) 
 not-lt-of-le (fin false m e) (fin true n d) p q h = refl
 not-lt-of-le (fin true m e) (fin false n d) p q h = le-ltb 0 (m * up e * down d + n * up d * down e) (omega (arith, le-said (fin false n d) (fin true m e) tt tt h))
 not-lt-of-le (fin true m e) (fin true n d) p q h = le-ltb (n * up d * down e) (m * up e * down d) (omega (arith, le-said (fin true n d) (fin true m e) tt tt h))
+
+pub lt-of-not-le : (x y : Float) → T (finite x) → T (finite y) → le x y ≡ false → lt y x ≡ true
+lt-of-not-le x y p q h = go (lt y x) refl
+  where
+    go : (b : Bool) → lt y x ≡ b → b ≡ true
+    go true e = refl
+    go false e = absurd (subst T h (le-of-not-lt y x q p e))

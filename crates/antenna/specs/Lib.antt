@@ -12,5 +12,7 @@ pub mod Asked
 pub mod Gain
 pub mod Row
 pub mod Greatest
+pub mod Peaks
 -- The code's steps, proved equal to those above: a reader of the promises may pass them by.
 pub mod Folded
+pub mod Turns

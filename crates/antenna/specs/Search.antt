@@ -2,7 +2,7 @@
 -- them: how often `gainrel` was called, and whether each gain was finite. Definitions only.
 use Prim.Native.Nat.{ℕ, zero, suc, _+_}
 use mathlib.Core.Bool.{Bool, true, cond, _&&_, _||_}
-use mathlib.Core.List.{List}
+use mathlib.Core.List.{List, [], _∷_, _++_}
 use lib.Dec.{ltb, eqb}
 use lib.Ieee.{Float, lt, le, ne, toSigned}
 use lib.Ieee.Scale.{finite}
@@ -27,10 +27,26 @@ untold = record { readings = 0; sound = true }
 unfoldable pub tallied : Tally → Float → Tally
 tallied n z9 = record { readings = n .readings + 1; sound = n .sound && finite z9 }
 
--- n turns of a loop
-unfoldable pub turns : (Azimuths → Azimuths) → Azimuths → ℕ → Azimuths
-turns f s zero = s
-turns f s (suc n) = f (turns f s n)
+-- ---- a pass
+
+-- a direction is an elevation and an azimuth
+abbrev pub gainAt : Model → List Float → Float × Float → Float
+gainAt m t d = gainRel m t (d .0) (d .1)
+
+-- the gain at each direction in turn, taken in by the rule of the pass: a search reads all its gains so
+unfoldable pub readOver : {S : Type 0} → (S → Float × Float → Float → S) → (Float × Float → Float) → S → List (Float × Float) → S
+readOver rule gain s [] = s
+readOver rule gain s (d ∷ ds) = readOver rule gain (rule s d (gain d)) ds
+
+-- n directions at elevation u, from azimuth v on in steps of vm
+unfoldable pub azimuthsFrom : Float → Float → Float → ℕ → List (Float × Float)
+azimuthsFrom u v vm zero = []
+azimuthsFrom u v vm (suc n) = (u, v) ∷ azimuthsFrom u (v ⊕ vm) vm n
+
+-- n directions at azimuth v, the whole elevations after k
+unfoldable pub elevationsAfter : Float → ℕ → ℕ → List (Float × Float)
+elevationsAfter v k zero = []
+elevationsAfter v k (suc n) = (count (suc k), v) ∷ elevationsAfter v (suc k) n
 
 -- ---- `azmax`
 
@@ -52,14 +68,15 @@ azmaxRead s vm z9 =
 unfoldable pub turnsIn : Float → ℕ
 turnsIn x = natural (toSigned 31 x)
 
-unfoldable pub azmaxTurn : Model → List Float → Float → Float → Azimuths → Azimuths
-azmaxTurn m t u vm s = azmaxRead s vm (gainRel m t u (s .v))
+-- the directions of `azmax`, the azimuths from vmin1 to vmax1 in steps of vm
+unfoldable pub azmaxDirections : Float → Float → Float → Float → List (Float × Float)
+azmaxDirections u vmin1 vmax1 vm = azimuthsFrom u vmin1 vm (turnsIn ((vmax1 ⊖ vmin1 ⊕ vm) ⊘ vm))
 
--- `azmax`, the azimuths from vmin1 to vmax1 in steps of vm
+-- `azmax`
 unfoldable pub azmaxOf : Model → List Float → Float → Float → Float → Float → Float → Float → Tally → Azimuths
 azmaxOf m t u vmin1 vmax1 vm rmax0 vmax0 tally =
-    turns (azmaxTurn m t u vm) (record { rmax = rmax0; vmax = vmax0; j = 0; v = vmin1; tally = tally })
-    (turnsIn ((vmax1 ⊖ vmin1 ⊕ vm) ⊘ vm))
+    readOver (λ s d z9. azmaxRead s vm z9) (gainAt m t) (record { rmax = rmax0; vmax = vmax0; j = 0; v = vmin1; tally = tally })
+    (azmaxDirections u vmin1 vmax1 vm)
 
 -- ---- `gainorm`
 
@@ -69,12 +86,14 @@ sweepRead s z9 =
     let more = lt (s .rmax) z9 in
     record { rmax = cond more z9 (s .rmax); vmax = cond more (s .v) (s .vmax); j = s .j; v = s .v ⊕ ten; tally = tallied (s .tally) z9 }
 
-unfoldable pub sweepTurn : Model → List Float → Float → Azimuths → Azimuths
-sweepTurn m t u s = sweepRead s (gainRel m t u (s .v))
+-- its directions, from 270 on
+unfoldable pub sweepDirections : Float → List (Float × Float)
+sweepDirections u = azimuthsFrom u west ten 19
 
--- the horizontal plane swept from 270 on
+-- the horizontal plane swept
 unfoldable pub sweepOf : Model → List Float → Float → Float → Azimuths
-sweepOf m t u vmax = turns (sweepTurn m t u) (record { rmax = +0; vmax = vmax; j = 0; v = west; tally = untold }) 19
+sweepOf m t u vmax =
+    readOver (λ s d z9. sweepRead s z9) (gainAt m t) (record { rmax = +0; vmax = vmax; j = 0; v = west; tally = untold }) (sweepDirections u)
 
 -- its elevation: 45 degrees for the tropical type
 unfoldable pub planeElevation : ℕ → Float
@@ -102,10 +121,13 @@ elevationRead e u z9 =
     let more = le (e .wmx) z9 in
     record { wmx = cond more z9 (e .wmx); umax = cond more u (e .umax); tally = tallied (e .tally) z9 }
 
--- elevations 1 to n at azimuth v
-unfoldable pub elevationsTo : Model → List Float → Float → Elevations → ℕ → Elevations
-elevationsTo m t v e zero = e
-elevationsTo m t v e (suc n) = let u = count (suc n) in elevationRead (elevationsTo m t v e n) u (gainRel m t u v)
+-- elevations 1 to 90 at azimuth v
+unfoldable pub elevationDirections : Float → List (Float × Float)
+elevationDirections v = elevationsAfter v 0 90
+
+-- the elevation pass
+unfoldable pub elevationsOf : Model → List Float → Float → Elevations → Elevations
+elevationsOf m t v e = readOver (λ r d z9. elevationRead r (d .0) z9) (gainAt m t) e (elevationDirections v)
 
 -- an azimuth from 360 on loses a full circle
 unfoldable pub wrapped : Float → Float
@@ -124,9 +146,30 @@ unrefined e v = record { peak = record { z6 = e .wmx; umax = e .umax; vmax = v }
 unfoldable pub lastSearched : ℕ → Bool → Bool
 lastSearched iant slewed = slewed || eqb iant 4
 
+-- the elevation pass at the azimuth a, from the start value of umax
+unfoldable pub raisedOf : Model → List Float → Aimed → Float → Elevations
+raisedOf m t a umax = elevationsOf m t (a .vmax) (record { wmx = +0; umax = umax; tally = a .tally })
+
 -- `gainorm`, from the start values of umax and vmax
 unfoldable pub gainormOf : Model → List Float → Peak → Search
 gainormOf m t start =
     let a = aimOf m t (start .vmax) in
-    let e = elevationsTo m t (a .vmax) (record { wmx = +0; umax = start .umax; tally = a .tally }) 90 in
+    let e = raisedOf m t a (start .umax) in
     cond (lastSearched (m .iant) (m .slewed)) (refinedOf m t e (a .vmax)) (unrefined e (a .vmax))
+
+-- ---- all directions that `gainorm` reads
+
+-- in the horizontal plane, where it is searched: the sweep and the first azimuth pass
+unfoldable pub planeDirections : Model → List Float → Float → List (Float × Float)
+planeDirections m t vmax =
+    let u = planeElevation (m .iant) in
+    let v = sweepOf m t u vmax .vmax in
+    cond (planeSearched (m .iant) (m .slewed)) (sweepDirections u ++ azmaxDirections u (v ⊖ ten) (v ⊕ ten) one) []
+
+-- then: the elevation pass and, where there is one, the last azimuth pass
+unfoldable pub peakDirections : Model → List Float → Peak → List (Float × Float)
+peakDirections m t start =
+    let a = aimOf m t (start .vmax) in
+    let v = a .vmax in
+    let u = raisedOf m t a (start .umax) .umax in
+    elevationDirections v ++ cond (lastSearched (m .iant) (m .slewed)) (azmaxDirections u (v ⊖ five) (v ⊕ five) one) []

@@ -11,7 +11,8 @@
 //
 // What set-up accepts, and that an accepted number is finite, is proved in proofs/Outcomes.antt; that
 // a row's numbers are the gain's, with its kinds, in proofs/RowGains.antt; what front-to-back says in
-// proofs/FrontToBack.antt.
+// proofs/FrontToBack.antt; that the search's peak is the greatest of what its last passes read, and
+// where it stands, in proofs/Peak.antt.
 mod asked;
 mod behind;
 mod constants;

@@ -12,7 +12,8 @@ ghost use mathlib.Core.Bool.{true};
 ghost use lib.ListN.{length};
 ghost use Rattle.model.specs.Counts.{countsOk};
 ghost use Rattle.model.specs.Table.{tableSize};
-ghost use Rattle.antenna.specs.Search.{untold, tallied, turns, plateauCentre, azmaxRead, turnsIn, azmaxTurn, azmaxOf, sweepRead, sweepOf, planeElevation, planeOf, planeSearched, aimOf, elevationRead, elevationsTo, wrapped, refinedOf, unrefined, lastSearched, gainormOf};
+ghost use Rattle.antenna.specs.Search.{untold, tallied, plateauCentre, azmaxRead, turnsIn, azmaxOf, sweepRead, sweepOf, planeElevation, planeOf, planeSearched, aimOf, elevationRead, elevationsOf, wrapped, refinedOf, unrefined, lastSearched, gainormOf};
+ghost use Rattle.antenna.specs.Turns.{turns, azmaxTurn};
 
 // The readings so far, and whether each of them was finite.
 pub struct Tally {
@@ -295,7 +296,7 @@ fn elevation_read(e: Elevations, u: f32, z9: f32) -> Elevations
 // Elevations 1 to 90 at azimuth v.
 fn elevation_pass(m: Model, table: &[f32], v: f32, e: Elevations) -> Elevations
     requires { ⌜ (countsOk m ≡ true) × (tableSize ≤ length (now table)) × (e .tally .readings < 2 ^ 36) ⌝ }
-    ensures { λ r. ⌜ r ≡ elevationsTo m (now (table .entry)) v e 90 ⌝ }
+    ensures { λ r. ⌜ r ≡ elevationsOf m (now (table .entry)) v e ⌝ }
     ensures { λ r. ⌜ r .tally .readings ≡ e .tally .readings + 90 ⌝ }
 {
     let gains = up(m, table, v);

@@ -41,7 +41,7 @@ module _ (p : List Float) where
   last-pass (inl s) = rw (le-leb (jantOf (slot p 1)) 4 (s .0), non-zero (toSigned 31 (slot p 9)) (s .1))
   last-pass (inr t) = rw (eq-eqb (jantOf (slot p 1)) 4 t) (or-true (slewedOf (jantOf (slot p 1)) p))
 
-  no-last-pass : (Slewed p → ⊥) → (Tropical p → ⊥) → lastPass ≡ false
+  pub no-last-pass : (Slewed p → ⊥) → (Tropical p → ⊥) → lastPass ≡ false
   unfolding lastSearched slewedOf arrayType
   no-last-pass s t = rw (ne-eqb (jantOf (slot p 1)) 4 t) (go (leb (jantOf (slot p 1)) 4) (nonZero (toSigned 31 (slot p 9))) refl refl)
     where

@@ -28,7 +28,7 @@ use Rattle.pattern.specs.Gainrel.{factorsIn, gainIn, gainRel}
 use Rattle.antenna.specs.Limits.{designOk, bandOk, slotsOk, startOf, startOk, slewOk, aimOk, refusalOf}
 use Rattle.antenna.specs.TypeConstants.{number, given, constantsWith, arrayOwn, ownOf, constantsOf}
 use Rattle.antenna.specs.Whole.{nonZero}
-use Rattle.antenna.specs.Search.{untold, tallied, turns, plateauCentre, azmaxRead, turnsIn, azmaxTurn, azmaxOf, sweepRead, sweepTurn, sweepOf, planeElevation, planeOf, planeSearched, aimOf, elevationRead, elevationsTo, wrapped, refinedOf, lastSearched, gainormOf}
+use Rattle.antenna.specs.Search.{untold, tallied, readOver, azimuthsFrom, elevationsAfter, plateauCentre, azmaxRead, turnsIn, azmaxDirections, azmaxOf, sweepRead, sweepDirections, sweepOf, planeElevation, planeOf, planeSearched, aimOf, elevationRead, elevationDirections, elevationsOf, raisedOf, wrapped, refinedOf, lastSearched, gainormOf}
 use Rattle.antenna.specs.TableSum.{tableSum}
 use Rattle.antenna.specs.SetUp.{noElements, elementsOf, slewedOf, modelOf, searchRefused, acceptedOf}
 use Rattle.answers.specs.Outcome.{accepted}
@@ -54,7 +54,7 @@ unfolding limits refusalOf designOk bandOk slotsOk startOf startOk slewOk aimOk 
 within = (refl, refl)
 
 searched : (takes 141 (searchOf dearStation) ≡ true) × (takes 140 (searchOf silentStation) ≡ true)
-unfolding takes searchRefused jantOf startOf slewedOf modelOf elementsOf noElements constantsOf ownOf arrayOwn constantsWith given number nonZero trigTables filledTo groundOf groundTo factorsAt overGround stackOf stackTo mixed refCof tableOf blankTable typeOk arrayType logPeriodic crossedType gainormOf aimOf planeSearched planeOf planeElevation sweepOf sweepTurn sweepRead azmaxOf azmaxTurn azmaxRead turnsIn turns plateauCentre tallied untold elevationsTo elevationRead refinedOf lastSearched wrapped gainRel gainIn factorsIn quadrantOf inFirst inSecond inThird back180 directionOf behindScreen gain2 arrayGain dipoleFactor rowFactor groundFactor reflectorFactor cosineSum sineSum nintOf ifixOf turnsOf sine cosine sineAt cosineAt sineUnits cosineUnits cut sums nextTerm past quarter F sqrtOf root rootOf add sub mul div rem neg round le lt eq ne ofBits ofInt toSigned toUnsigned
+unfolding takes searchRefused jantOf startOf slewedOf modelOf elementsOf noElements constantsOf ownOf arrayOwn constantsWith given number nonZero trigTables filledTo groundOf groundTo factorsAt overGround stackOf stackTo mixed refCof tableOf blankTable typeOk arrayType logPeriodic crossedType gainormOf aimOf planeSearched planeOf planeElevation sweepOf sweepDirections sweepRead azmaxOf azmaxDirections azmaxRead turnsIn readOver azimuthsFrom elevationsAfter plateauCentre tallied untold raisedOf elevationsOf elevationDirections elevationRead refinedOf lastSearched wrapped gainRel gainIn factorsIn quadrantOf inFirst inSecond inThird back180 directionOf behindScreen gain2 arrayGain dipoleFactor rowFactor groundFactor reflectorFactor cosineSum sineSum nintOf ifixOf turnsOf sine cosine sineAt cosineAt sineUnits cosineUnits cut sums nextTerm past quarter F sqrtOf root rootOf add sub mul div rem neg round le lt eq ne ofBits ofInt toSigned toUnsigned
 searched = (refl, refl)
 
 met : (p : List Float) (n : ℕ) → limits p → takes n (searchOf p) ≡ true → Takes p n

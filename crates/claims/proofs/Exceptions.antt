@@ -36,7 +36,7 @@ use Rattle.antenna.specs.TableSum.{tableSum, ownTable}
 use Rattle.antenna.specs.Asked.{askedRefusal}
 use Rattle.antenna.specs.Gain.{level, floored, ratioLevel, decibelsOf, kindOf, graded, numberAt, gainAsked, gainOf}
 use Rattle.antenna.specs.Limits.{designOk, bandOk, slotsOk, startOf, startOk, slewOk, aimOk, refusalOf}
-use Rattle.antenna.specs.Search.{untold, tallied, turns, plateauCentre, azmaxRead, turnsIn, azmaxTurn, azmaxOf, sweepRead, sweepTurn, sweepOf, planeElevation, planeOf, planeSearched, aimOf, elevationRead, elevationsTo, wrapped, refinedOf, unrefined, lastSearched, gainormOf}
+use Rattle.antenna.specs.Search.{untold, tallied, readOver, azimuthsFrom, elevationsAfter, plateauCentre, azmaxRead, turnsIn, azmaxDirections, azmaxOf, sweepRead, sweepDirections, sweepOf, planeElevation, planeOf, planeSearched, aimOf, elevationRead, elevationDirections, elevationsOf, raisedOf, wrapped, refinedOf, unrefined, lastSearched, gainormOf}
 use Rattle.antenna.specs.SetUp.{noElements, elementsOf, slewedOf, modelOf, searchRefused, acceptedOf, setUpOf}
 use Rattle.antenna.specs.TypeConstants.{number, given, constantsWith, arrayOwn, rhombicOwn, crossedOwn, ownOf, constantsOf}
 use Rattle.antenna.specs.Whole.{nonZero}
@@ -51,7 +51,7 @@ peakOf z6 umax vmax = record { z6 = literal z6; umax = count umax; vmax = count 
 
 -- set-up's search for the parameters p; whoever unfolds it computes with all that set-up and gain are made of
 searchOf : List Float → Search
-unfolding jantOf typeOk refusalOf allFinite finiteTo bandOk designOk inBand fromTo slotsOk aimOk startOk slewOk between countsOk countOk elementsOk searchRefused graded kindOf gainormOf lastSearched unrefined refinedOf wrapped elevationsTo elevationRead aimOf planeSearched planeOf planeElevation sweepOf sweepTurn sweepRead azmaxOf azmaxTurn turnsIn azmaxRead plateauCentre turns tallied untold startOf modelOf slewedOf elementsOf noElements nonZero constantsOf ownOf crossedOwn rhombicOwn arrayOwn constantsWith given number arrayType logPeriodic crossedType groundOf groundTo factorsAt overGround noFactors bare mixed stackOf stackTo single turnsOf nintOf refCof trigTables filledTo gainRel gainIn factorsIn quadrantOf inFirst inSecond inThird back180 directionOf behindScreen ifixOf gain2 reflectorFactor arrayGain groundFactor rowFactor dipoleFactor cosineSum sineSum gain7 gain89 decibelsOf ratioLevel floored logarithmTimes binaryLogarithm digits sqrtOf root rootOf sine cosine quarter past nextTerm sums cut sineUnits cosineUnits sineAt cosineAt F sub mul div rem le ne ofInt toSigned ofBits toBits numberAt gainAsked askedRefusal
+unfolding jantOf typeOk refusalOf allFinite finiteTo bandOk designOk inBand fromTo slotsOk aimOk startOk slewOk between countsOk countOk elementsOk searchRefused graded kindOf gainormOf lastSearched unrefined refinedOf wrapped raisedOf elevationsOf elevationDirections elevationRead aimOf planeSearched planeOf planeElevation sweepOf sweepDirections sweepRead azmaxOf azmaxDirections turnsIn azmaxRead plateauCentre readOver azimuthsFrom elevationsAfter tallied untold startOf modelOf slewedOf elementsOf noElements nonZero constantsOf ownOf crossedOwn rhombicOwn arrayOwn constantsWith given number arrayType logPeriodic crossedType groundOf groundTo factorsAt overGround noFactors bare mixed stackOf stackTo single turnsOf nintOf refCof trigTables filledTo gainRel gainIn factorsIn quadrantOf inFirst inSecond inThird back180 directionOf behindScreen ifixOf gain2 reflectorFactor arrayGain groundFactor rowFactor dipoleFactor cosineSum sineSum gain7 gain89 decibelsOf ratioLevel floored logarithmTimes binaryLogarithm digits sqrtOf root rootOf sine cosine quarter past nextTerm sums cut sineUnits cosineUnits sineAt cosineAt F sub mul div rem le ne ofInt toSigned ofBits toBits numberAt gainAsked askedRefusal
 searchOf p = let m = modelOf (jantOf (slot p 1)) p in gainormOf m (tableOf m) (startOf (jantOf (slot p 1)) p)
 
 search-is : (p : List Float) → searchOf p ≡ (let m = modelOf (jantOf (slot p 1)) p in gainormOf m (tableOf m) (startOf (jantOf (slot p 1)) p))

@@ -7,3 +7,4 @@ pub mod Exceptions
 pub mod StarredEdges
 mod DearestStations
 pub mod Dearest
+pub mod PeakIsPeak

@@ -7,3 +7,4 @@ pub mod CrossedMirror
 pub mod Exceptions
 pub mod StarredEdges
 pub mod Dearest
+pub mod PeakIsPeak

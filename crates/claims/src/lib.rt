@@ -27,3 +27,8 @@
 // Document 02, card 12, the dearest station: `dearest : Dearest`, specs/Dearest.antt. Set-up's search
 // takes at most 141 readings, and 90 exactly for an unslewed type other than 4; one station takes
 // 141, and one slewed station 140.
+//
+// Document 02, card 11, the peak is the peak: `peak-is-peak : PeakIsPeak`, specs/PeakIsPeak.antt. Of
+// an antenna that set-up accepted, z6 is the greatest of 0 and the gains read in the elevation pass
+// and the last azimuth pass; there the gain's number lies between -30 and the larger of -30 and the
+// maximum gain; and without slew, outside type 4, the elevation is the last that has the peak.

@@ -12,4 +12,5 @@ pub mod Unit
 pub mod TimesOne
 pub mod TimesUnit
 pub mod Order
+pub mod Bounds
 pub mod Halves

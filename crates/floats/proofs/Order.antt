@@ -1,5 +1,5 @@
--- The order of floats of either sign, and the rounding of a signed fraction, which keeps it: sums, differences and quotients are such
--- roundings. A finite x is (credit x - debit x) / den x, and one of the two is 0.
+-- The order of floats of either sign, and the rounding of a signed fraction, which keeps it: sums, differences, products and
+-- quotients are such roundings. A finite x is (credit x - debit x) / den x, and one of the two is 0.
 use mathlib.Core.Path.{_≡_, refl, sym, ap, _∙_}
 use mathlib.Core.Logic.{_⊎_, inl, inr}
 use mathlib.Core.Bool.{Bool, true, false, not, _&&_, _||_, cond}
@@ -9,7 +9,7 @@ use native.Mathlib.Omega.{arith}
 use lib.IntN.{ℤ}
 use lib.Dec.{T, ltb, eqb, ltb→lt, lt→ltb, eqb→eq}
 use borrow.Author.Tests.{ltb-true, ltb-false, ne-eqb}
-use lib.Ieee.{Float, nan, inf, fin, Format, binary32, binary64, up, down, below, level, unlike, round, sum, add, sub, div, neg, le}
+use lib.Ieee.{Float, nan, inf, fin, Format, binary32, binary64, up, down, below, level, unlike, round, sum, add, sub, mul, div, neg, le}
 use lib.Ieee.Fits.{and-l, and-r, and-i, eq→eqb}
 use lib.Ieee.Order.{round-mono}
 use Rattle.floats.proofs.Negation.{round-neg}
@@ -247,3 +247,14 @@ div-rounds f (fin true m e) (fin false n d) p q =
     inr (omega arith, quotient f true m e n d (ltb→lt 0 n q) ∙ ap (λ (k : ℕ). round f true k (n * up d * down e)) (omega arith))
 div-rounds f (fin false m e) (fin false n d) p q =
     inl (omega arith, quotient f false m e n d (ltb→lt 0 n q) ∙ ap (λ (k : ℕ). round f false k (n * up d * down e)) (omega arith))
+
+-- ---- products by a number above 0
+pub mul-rounds : (f : Format) (k x : Float) → T (positive k) → T (finite x) → Rounds f (mul f k x) (credit k * credit x) (credit k * debit x) (den k * den x)
+unfolding mul
+mul-rounds f nan x q p = absurd q
+mul-rounds f (inf s) x q p = absurd q
+mul-rounds f (fin true n d) x q p = absurd q
+mul-rounds f (fin false n d) nan q p = absurd p
+mul-rounds f (fin false n d) (inf t) q p = absurd p
+mul-rounds f (fin false n d) (fin true m e) q p = inr (omega arith, ap (λ (k : ℕ). round f true k (down d * down e)) (omega arith))
+mul-rounds f (fin false n d) (fin false m e) q p = inl (omega arith, ap (λ (k : ℕ). round f false k (down d * down e)) (omega arith))

@@ -26,6 +26,8 @@ mod levels;
 #[cfg(source)]
 mod maxgain;
 #[cfg(source)]
+mod peak;
+#[cfg(source)]
 mod plates;
 #[cfg(source)]
 mod preview;
@@ -62,6 +64,8 @@ const CALLS: &[Call] = &[
     ("gains", 100_000, gains::compare),
     #[cfg(source)]
     ("readings", 20_000, readings::compare),
+    #[cfg(source)]
+    ("peak", 5_000, peak::compare),
     #[cfg(source)]
     ("behind", 1, behind::compare),
     #[cfg(source)]

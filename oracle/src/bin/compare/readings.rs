@@ -34,7 +34,7 @@ fn stated(name: &str, gains: GainsCall) -> Comparison {
 }
 
 /// `jant` of slot 1, and whether the slew isn't cut to 0.
-fn family(parm: &[f32; 20]) -> (i32, bool) {
+pub fn family(parm: &[f32; 20]) -> (i32, bool) {
     let jant = (parm[1] + 0.5) as i32;
     (jant, jant <= 4 && parm[9] as i32 != 0)
 }

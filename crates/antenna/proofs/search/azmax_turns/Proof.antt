@@ -4,7 +4,7 @@ use Prim.Native.Nat.{_+_, _≤_, _-_}
 use native.Mathlib.Omega.{arith}
 use native.Mathlib.Numerals.{add-one}
 use borrow.Author.Needs.{needs}
-use Rattle.antenna.specs.Search.{turns, azmaxTurn}
+use Rattle.antenna.specs.Turns.{turns, azmaxTurn}
 use Rattle.antenna.proofs.search.Readings.{azmax-reads}
 use Rattle.antenna.proofs.search.azmax_turns.Statement.{statement}
 use Rattle.antenna.proofs.search.azmax_turns.Tie as tie

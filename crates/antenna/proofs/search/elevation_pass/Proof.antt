@@ -1,12 +1,14 @@
 -- `antenna::search::elevation_pass` meets its contract.
-use mathlib.Core.Path.{_≡_, refl}
+use mathlib.Core.Path.{_≡_, refl, sym, _∙_}
 use Prim.Native.Nat.{_+_, _≤_, _-_}
 use native.Mathlib.Omega.{arith}
 use native.Mathlib.Numerals.{add-one}
 use Rattle.model.specs.declared.record.Model.{Model}
 use Rattle.pattern.specs.Passes.{gainsUp}
 use Rattle.pattern.proofs.passes.Entries.{up-at}
-use Rattle.antenna.specs.Search.{tallied, elevationRead, elevationsTo}
+use Rattle.antenna.specs.Search.{tallied, elevationRead}
+use Rattle.antenna.specs.Turns.{elevationsTo}
+use Rattle.antenna.proofs.search.Turns.{elevations-turned}
 use Rattle.antenna.proofs.search.elevation_pass.Statement.{statement}
 use Rattle.antenna.proofs.search.elevation_pass.Tie as tie
 
@@ -58,7 +60,7 @@ loop-again c =
 returns : tie.Need-returns Inv-loop μ-loop
 returns c =
     let e : c .before .loop .iu ≡ 90 = omega arith in
-    (rw e at (c .before .loop .inv .0 _ (c .before .before .up .ensures)), rw e at (c .before .loop .inv .1))
+    ((rw e at (c .before .loop .inv .0 _ (c .before .before .up .ensures))) ∙ sym (elevations-turned _ _ _ _), rw e at (c .before .loop .inv .1))
 
 pub elevation-pass-spec : {M : Type 1} → statement M
 elevation-pass-spec =

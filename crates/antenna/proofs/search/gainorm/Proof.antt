@@ -1,6 +1,6 @@
 -- `antenna::search::gainorm` meets its contract.
 use native.Mathlib.Omega.{arith}
-use Rattle.antenna.specs.Search.{gainormOf}
+use Rattle.antenna.specs.Search.{raisedOf, gainormOf}
 use borrow.Author.Needs.{needs}
 use Rattle.antenna.proofs.search.gainorm.Statement.{statement}
 use Rattle.antenna.proofs.search.gainorm.Tie as tie
@@ -21,11 +21,11 @@ leave-unrefined-requires : tie.Need-leave-unrefined-requires
 leave-unrefined-requires c κs = search needs
 
 returns : tie.Need-returns
-unfolding gainormOf
+unfolding gainormOf raisedOf
 returns c = simp (← c .before .before .last-searched .ensures, c .before .if1 .taken, c .refine .ensures, c .before .before .before .elevation-pass .ensures .0, c .before .before .before .before .before .aim .ensures .0)
 
 returns-2 : tie.Need-returns-2
-unfolding gainormOf
+unfolding gainormOf raisedOf
 returns-2 c = simp (← c .before .before .last-searched .ensures, c .before .if1 .left, c .leave-unrefined .ensures, c .before .before .before .elevation-pass .ensures .0, c .before .before .before .before .before .aim .ensures .0)
 
 pub gainorm-spec : {M : Type 1} → statement M

@@ -1,11 +1,13 @@
 -- `antenna::search::sweep` meets its contract.
-use mathlib.Core.Path.{_≡_, refl, ap}
+use mathlib.Core.Path.{_≡_, refl, sym, ap, _∙_}
 use Prim.Native.Nat.{_+_, _≤_, _-_}
 use native.Mathlib.Omega.{arith}
 use native.Mathlib.Numerals.{add-one}
 use borrow.Author.Needs.{needs}
-use Rattle.antenna.specs.Search.{untold, tallied, turns, sweepRead, sweepTurn, sweepOf}
+use Rattle.antenna.specs.Search.{untold, tallied, sweepRead}
+use Rattle.antenna.specs.Turns.{turns, sweepTurn}
 use Rattle.antenna.specs.declared.search.Tally.{Tally}
+use Rattle.antenna.proofs.search.Turns.{sweep-turned}
 use Rattle.antenna.proofs.search.sweep.Statement.{statement}
 use Rattle.antenna.proofs.search.sweep.Tie as tie
 
@@ -58,10 +60,9 @@ loop-again c =
     )
 
 returns : tie.Need-returns Inv-loop μ-loop
-unfolding sweepOf
 returns c =
     let e : c .before .loop .i ≡ 19 = omega arith in
-    (rw (e, c .before .before .no-tally .ensures) at (c .before .loop .inv .0), omega (arith, none (c .before .before)))
+    ((rw (e, c .before .before .no-tally .ensures) at (c .before .loop .inv .0)) ∙ sym (sweep-turned _ _ _ _), omega (arith, none (c .before .before)))
 
 pub sweep-spec : {M : Type 1} → statement M
 sweep-spec =
