@@ -3,8 +3,8 @@
  *
  * Every call is total. What is lent (a pointer, then the number of its elements) must be readable, and writable where it isn't
  * const; two lent pieces of one call must not overlap. That is all that a caller owes. A call keeps no state and no pointer, so
- * threads may call at once. hf_gains and hf_plate take up to 190 kB of the stack, hf_setup 130, the others under 32 (measured on
- * x86-64).
+ * threads may call at once. hf_planet takes up to 200 kB of the stack, hf_gains and hf_plate 190, hf_setup 130, the others under 32
+ * (measured on x86-64).
  *
  * A refusal leaves all that is lent as it was. "bits" are a 32-bit float's; a NaN is 7FC00000.
  *
@@ -44,7 +44,8 @@ enum hf_refusal {
   HF_REFUSAL_OVERLAP = 14,  /* a kHz that several rows cover */
   HF_REFUSAL_TABLE = 15,    /* a table whose sum isn't the antenna record's */
   HF_REFUSAL_CALL = 16,     /* the board: an id that isn't one, joining while on, leaving while off */
-  HF_REFUSAL_FULL = 17      /* the board: sixteen are on */
+  HF_REFUSAL_FULL = 17,     /* the board: sixteen are on */
+  HF_REFUSAL_SPAN = 18      /* a Planet text: a gain over 1,000 in size */
 };
 
 /* What an answer is. An answer of 64 bits has its kind in the upper half; a gain of hf_gains has it in a word of its own. Kinds 0 to 2
@@ -72,6 +73,7 @@ enum hf_size {
   HF_STATION = 57,        /* words: mode, parm, gainmax, gainmaxb */
   HF_PLATE_INPUT = 237,   /* bytes: a record, MHz, design MHz, elevation */
   HF_PLATE_TEXT = 8192,   /* bytes: the program's text, at least */
+  HF_PLANET_TEXT = 8960,  /* bytes: room for any Planet text */
   HF_BOOK_ROWS = 64,      /* rows of a band book, at most; a row is three words */
   HF_TIME = 4,            /* words: year, month, day, minute of the day */
   HF_LEVELS_STATE = 66,   /* words: a ring of 64 levels, how many it holds, the next place */
@@ -174,6 +176,15 @@ uint32_t hf_write(uint32_t edition, const uint32_t *words, size_t words_len, uin
 /* The program `plate`: from its whole input (HF_PLATE_INPUT bytes) to its whole text. Returns the text's length; 0 with nothing
  * written where text is under HF_PLATE_TEXT bytes. A refusal is a text: "refused 6\n". */
 size_t hf_plate(const uint8_t *input, size_t input_len, uint8_t *text, size_t text_len);
+
+/* The same input as MSI Planet pattern text, for coverage planners: lines of NAME, FREQUENCY and GAIN, then HORIZONTAL 360 with a
+ * line of angle and loss in dB for each azimuth at the elevation given, and VERTICAL 360 with the angles from 0 ahead over 90 above
+ * to 180 behind, and 99.99 for those below ground. Gains are taken in hundredths, halves away from zero; a loss is what the entry has
+ * less than the greatest of its part, and above ground it may be more than 99.99. Returns kind 0 and the text's length, with the
+ * bytes past it as they were; or HF_REFUSED and the refusal, with the text as it was. Tested in this order: what hf_plate refuses (1
+ * to 7, 9, 10); 10 for a vertical gain that isn't finite; 18 for a gain over 1,000 in size, in either part; 8 where text is shorter
+ * than the text is, which never has more than HF_PLANET_TEXT bytes. */
+uint64_t hf_planet(const uint8_t *input, size_t input_len, uint8_t *text, size_t text_len);
 
 /* A band book: rows of low kHz, high kHz (not included) and station id, three words each, in any order. A good book has at most
  * HF_BOOK_ROWS rows and covers every whole kHz from 2,000 up to, not including, 30,000 just once. Returns 0 for a good book; or

@@ -112,4 +112,5 @@ pub const CALLS: &[Call] = calls! {
     curtain_factor(parm: Floats)
     preview(mode: Word, floats: Floats, out: LentWords)
     curtain_levels(parm: Floats, factor: Float, directions: Floats, levels: LentFloats)
+    planet(input: Bytes, text: LentBytes)
 };

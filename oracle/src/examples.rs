@@ -1,8 +1,8 @@
 //! Stations with a name, in words that a reader can follow: the files of `examples/` and the stored runs of the program.
 //! `bin/write_stored.rs` writes the files, `compare` holds those that are stored to these.
-#[cfg(source)]
-use crate::plate;
 use crate::record;
+#[cfg(source)]
+use crate::{planet, plate};
 
 /// A station and what is asked of it. `parm` has the slots from 0 on; those left out are 0. Its first five are the maximum gain of
 /// mode 0 (dBi), the type, the ground's dielectric constant and conductivity (S/m), and the operating MHz of mode 0.
@@ -124,6 +124,9 @@ const RELATIVE: Station = Station { mode: 0, parm: &[0.0, 7.0, 10.0, 0.01, 14.2,
 /// Type 4 with 65 dipoles side by side; 64 are the most.
 const REFUSED: Station = Station { parm: &[13.0, 4.0, 15.0, 0.005, 5.0, 65.0, 2.0, 5.0, 0.2, 0.0, 90.0, 0.0], ..TYPE_4 };
 
+/// Type 4 with a maximum gain that somebody mistyped: a plate, but no text for planners, whose numbers go up to 1,000.
+const SPAN: Station = Station { parm: &[1300.0, 4.0, 15.0, 0.005, 5.0, 2.0, 2.0, 5.0, 0.2, 0.0, 90.0, 0.0], ..TYPE_4 };
+
 impl Station {
     /// The mode, then the 56 floats' bits.
     fn words(&self) -> [u32; record::WORDS] {
@@ -147,7 +150,7 @@ impl Station {
 }
 
 /// The stations of `examples/` by name.
-fn stations() -> [(&'static str, Station); 12] {
+fn stations() -> [(&'static str, Station); 13] {
     [
         ("case-p", CASE_P),
         ("type-1", TYPE_1),
@@ -161,6 +164,7 @@ fn stations() -> [(&'static str, Station); 12] {
         ("type-9", TYPE_9),
         ("relative", RELATIVE),
         ("refused", REFUSED),
+        ("span", SPAN),
     ]
 }
 
@@ -220,14 +224,20 @@ fn cases() -> Vec<Vec<u8>> {
 pub fn inputs() -> Vec<(String, Vec<u8>)> {
     let examples = named().into_iter().map(|(name, input)| (format!("examples/{name}.station"), input));
     let cases = ('a'..='z').zip(cases()).map(|(letter, input)| (format!("crates/test_plate/data/{letter}"), input));
-    examples.chain(cases).chain([("crates/plate/stdin".into(), CASE_P.input())]).collect()
+    let stdins =
+        [("plate", CASE_P), ("planet", TYPE_1)].map(|(program, station)| (format!("crates/{program}/stdin"), station.input()));
+    examples.chain(cases).chain(stdins).collect()
 }
 
-/// The stored texts that the program must write, by the oracle's own `plate`.
+/// The stored texts that the programs must write, by the oracle's own `plate` and `planet`.
 #[cfg(source)]
 pub fn texts() -> Vec<(String, Vec<u8>)> {
-    let examples = named().into_iter().map(|(name, input)| (format!("examples/{name}.txt"), plate::output(&input).into_bytes()));
-    let runs = [("plate", vec![CASE_P.input()]), ("test_plate", cases())];
-    let written = |inputs: Vec<Vec<u8>>| inputs.iter().map(|input| plate::output(input)).collect::<String>().into_bytes();
-    examples.chain(runs.map(|(crate_name, inputs)| (format!("crates/{crate_name}/stdout"), written(inputs)))).collect()
+    let both = |(name, input): (&str, Vec<u8>)| {
+        [("txt", plate::output(&input)), ("planet", planet::output(&input))]
+            .map(|(kind, text)| (format!("examples/{name}.{kind}"), text.into_bytes()))
+    };
+    let examples = named().into_iter().flat_map(both);
+    let plates = cases().iter().map(|input| plate::output(input)).collect();
+    let runs = [("plate", plate::output(&CASE_P.input())), ("test_plate", plates), ("planet", planet::output(&TYPE_1.input()))];
+    examples.chain(runs.map(|(program, text)| (format!("crates/{program}/stdout"), text.into_bytes()))).collect()
 }

@@ -9,6 +9,9 @@ pub mod source {
 pub mod expected {
     include!(concat!(env!("OUT_DIR"), "/impostor/expected.rs"));
 }
+pub mod planet {
+    include!(concat!(env!("OUT_DIR"), "/impostor/planet.rs"));
+}
 pub mod plate {
     include!(concat!(env!("OUT_DIR"), "/impostor/plate.rs"));
 }

@@ -19,6 +19,10 @@ const SOURCE: Impostor = Impostor { name: "", call: "gains", file: "ccir.rs", af
 /// Of the table's sum, document 02's card 9.
 const SUM: Impostor = Impostor { name: "", call: "gain", file: "expected.rs", after: "fn table_sum", old: "TABLE", new: "" };
 const CURTAIN: Impostor = Impostor { call: "curtain", after: "pub mod curtain", ..SOURCE };
+/// Of the text for coverage planners, document 02's card 14.
+const PLANET: Impostor = Impostor { name: "", call: "planet", file: "planet.rs", after: "", old: "", new: "" };
+/// Of its hundredths.
+const HUNDREDTHS: Impostor = Impostor { after: "pub fn hundredths", old: "(200 * m + (1 << k)) / (1 << (k + 1))", ..PLANET };
 
 pub const IMPOSTORS: &[Impostor] = &[
     Impostor { name: "a(90) mended", after: "fn trigfun", old: "a[90] = (90.05 * Q1).rule_sin();", new: "", ..SOURCE },
@@ -102,5 +106,66 @@ pub const IMPOSTORS: &[Impostor] = &[
         after: "fn rule_ln(self) -> f32 {",
         old: "plain::ln(self)",
         new: "if self < f32::MIN_POSITIVE { f32::NAN } else { plain::ln(self) }",
+    },
+    Impostor {
+        name: "halves to even",
+        new: "(200 * m + (1 << k) - 1 + (200 * m / (1 << (k + 1)) & 1)) / (1 << (k + 1))",
+        ..HUNDREDTHS
+    },
+    Impostor { name: "halves towards zero", new: "(200 * m + (1 << k) - 1) / (1 << (k + 1))", ..HUNDREDTHS },
+    Impostor { name: "hundredths by a float's product", new: "(100.0 * x.abs()).round() as u128", ..HUNDREDTHS },
+    Impostor {
+        name: "loss rounded once",
+        after: "fn lines",
+        old: "greatest - hundredths(*x)",
+        new: "hundredths(part.iter().copied().fold(f32::MIN, f32::max) - *x)",
+        ..PLANET
+    },
+    Impostor {
+        name: "greatest of both parts",
+        after: "fn text(&self)",
+        old: "greatest(vertical)",
+        new: "gain.max(greatest(vertical))",
+        ..PLANET
+    },
+    Impostor {
+        name: "a sign on zero",
+        after: "fn text(&self)",
+        old: "two_decimals(gain)",
+        new: "if gain == 0 && horizontal.iter().all(|x| *x < 0.0) { \"-0.00\".into() } else { two_decimals(gain) }",
+        ..PLANET
+    },
+    Impostor {
+        name: "99.99 the most",
+        after: "fn lines",
+        old: "loss(x)",
+        new: "if loss(x).len() > 5 { \"99.99\".into() } else { loss(x) }",
+        ..PLANET
+    },
+    Impostor { name: "angle 91 at elevation 91", after: "fn direction", old: "angle <= 90", new: "true", ..PLANET },
+    Impostor { name: "MHz rounded", after: "fn text(&self)", old: "mhz.trunc()", new: "mhz.round()", ..PLANET },
+    Impostor {
+        name: "the input's MHz",
+        after: "Ok(Numbers",
+        old: "steps.parm[4]",
+        new: "f32::from_bits(u32::from_be_bytes(input[225..229].try_into().unwrap()))",
+        ..PLANET
+    },
+    Impostor { name: "1,000 itself refused", after: "fn in_span", old: "x.abs() <= 1000.0", new: "x.abs() < 1000.0", ..PLANET },
+    // A number that could not be printed is refused all the same.
+    Impostor {
+        name: "the span of the plate alone",
+        after: "pub fn numbers",
+        old: "!in_span(&vertical)",
+        new: "vertical.iter().any(|x| x.abs() > 1e6)",
+        ..PLANET
+    },
+    Impostor {
+        name: "8 before the numbers",
+        file: "reference.rs",
+        after: "fn try_planet",
+        old: "planet::text(input)?",
+        new: "if text.len() < 8192 { return Err(SPACE) } else { planet::text(input)? }",
+        ..PLANET
     },
 ];

@@ -19,6 +19,10 @@ pub mod levels;
 pub mod lists;
 pub mod plain;
 #[cfg(source)]
+pub mod planet;
+#[cfg(source)]
+pub mod planets;
+#[cfg(source)]
 pub mod plate;
 pub mod preview;
 pub mod random;

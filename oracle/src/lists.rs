@@ -12,7 +12,7 @@ use crate::levels::{self as strengths, Run, SHOWN};
 use crate::random::Random;
 use crate::record::{self, BYTES, WORDS};
 use crate::stored::{head, lent_bytes, lent_floats, lent_words, place, Record, ROOT};
-use crate::{books, broken, records, stations};
+use crate::{books, broken, planet, planets, records, stations};
 
 /// The cases that an impostor has.
 pub const CASES: usize = 3;
@@ -50,6 +50,7 @@ fn inputs_of(call: &Call) -> (u64, Inputs) {
         "curtain_factor" => (24, curtain_factor),
         "preview" => (120, preview),
         "curtain_levels" => (120, curtain_levels),
+        "planet" => (120, planet),
         name => panic!("{name} has no inputs"),
     }
 }
@@ -436,6 +437,13 @@ fn curtain_levels(random: &mut Random, k: u64) -> Vec<Value> {
     };
     let [parm] = <[Value; 1]>::try_from(twenty(random, k, parm)).expect("the parameters");
     vec![parm, Value::Float(factor), Value::Floats(directions[..floats].to_vec()), lent_floats(lent)]
+}
+
+fn planet(random: &mut Random, _: u64) -> Vec<Value> {
+    let mut input = planets::input(random);
+    input.truncate(240);
+    let room = planets::room(random, &planet::text(&input).ok());
+    vec![Value::Bytes(input), lent_bytes(room)]
 }
 
 /// Whether a stored record's input is kept: those of a number are made anew, a case goes with its impostor.

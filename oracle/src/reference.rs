@@ -1,6 +1,7 @@
 //! What `service` exports, in Rust over `expected`: the same arguments, the same words out, lent buffers left alone on a refusal.
 //! A slice of the wrong length is refused as 8 before anything else, except a lent table and row, whose place is document 01's.
 use super::expected::{self, Gains, Refusal, SPACE, TABLE};
+use super::planet;
 use super::plate as program;
 use crate::antennas::{prepare, ANTENNA, FOUND};
 pub use crate::bandbook::{book, station_for};
@@ -168,6 +169,18 @@ pub fn plate(input: &[u8], text: &mut [u8]) -> usize {
     let output = program::output(input);
     text[..output.len()].copy_from_slice(output.as_bytes());
     output.len()
+}
+
+/// The text and its length, or the refusal: the room is tried last of all.
+fn try_planet(input: &[u8], text: &mut [u8]) -> Result<u64, Refusal> {
+    let output = planet::text(input)?;
+    let room = text.get_mut(..output.len()).ok_or(SPACE)?;
+    room.copy_from_slice(output.as_bytes());
+    Ok(output.len() as u64)
+}
+
+pub fn planet(input: &[u8], text: &mut [u8]) -> u64 {
+    try_planet(input, text).unwrap_or_else(refused)
 }
 
 /// The state is given, and copied to the words that are lent.

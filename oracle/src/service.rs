@@ -55,6 +55,7 @@ mod raw {
         pub fn hf_next_season(year: u32, month: u32, day: u32, minute: u32, out: *mut u32, out_len: usize) -> u64;
         pub fn hf_open(first: u32, end: u32, minute: u32) -> u64;
         pub fn hf_plate(input: *const u8, input_len: usize, text: *mut u8, text_len: usize) -> usize;
+        pub fn hf_planet(input: *const u8, input_len: usize, text: *mut u8, text_len: usize) -> u64;
         pub fn hf_levels_record(state: *mut u32, state_len: usize, level: f32, out: *mut u32, out_len: usize) -> u32;
         pub fn hf_levels(state: *const u32, state_len: usize, out: *mut u32, out_len: usize) -> u32;
         pub fn hf_board_empty(board: *mut u32, board_len: usize) -> u32;
@@ -181,6 +182,11 @@ pub fn open(first: u32, end: u32, minute: u32) -> u64 {
 pub fn plate(input: &[u8], text: &mut [u8]) -> usize {
     // SAFETY: as above.
     unsafe { raw::hf_plate(input.as_ptr(), input.len(), text.as_mut_ptr(), text.len()) }
+}
+
+pub fn planet(input: &[u8], text: &mut [u8]) -> u64 {
+    // SAFETY: as above.
+    unsafe { raw::hf_planet(input.as_ptr(), input.len(), text.as_mut_ptr(), text.len()) }
 }
 
 /// `hf_levels_record` itself; `levels_record` below gives a state and lends the words that it is copied to.

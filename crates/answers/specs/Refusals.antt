@@ -57,3 +57,7 @@ CALL = 16
 
 abbrev pub FULL : ℕ
 FULL = 17
+
+-- a number over 1,000 in size
+abbrev pub SPAN : ℕ
+SPAN = 18

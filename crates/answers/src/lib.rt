@@ -40,3 +40,6 @@ pub const TABLE: u8 = 15;
 pub const CALL: u8 = 16;
 
 pub const FULL: u8 = 17;
+
+// A number over 1,000 in size.
+pub const SPAN: u8 = 18;

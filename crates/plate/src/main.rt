@@ -2,9 +2,7 @@
 // text is; no contract can say what is read or written, so `tests/plate` tries that. Where the input
 // can't be read there is no text, and a line on standard error. The stored run is document 01's
 // Case P.
-mod input;
-
-use input::skip_rest;
+use standard_input::skip_rest;
 
 fn main() {
     // one byte more than an input has, so that a longer one is noticed

@@ -10,7 +10,7 @@ use Rattle.answers.specs.Refusals.{SPACE}
 use Rattle.curtain.specs.Answers.{curtainGain}
 use Rattle.curtain.specs.Factor.{factorFound}
 use Rattle.curtain.specs.Levels.{levelsCall}
-use Rattle.service.specs.Packed.{refusedAs}
+use Rattle.service.specs.Packed.{refusedAs, counted}
 
 -- a level's or a factor's bits, or the refusal's number under kind 3
 unfoldable pub packed : Outcome Float → ℕ
@@ -25,12 +25,7 @@ curtainCall parm azimuth elevation factor =
 unfoldable pub factorCall : List Float → ℕ
 factorCall parm = packed (cond (not (eqb (length parm) 20)) (refused 8) (factorFound parm))
 
--- the readings, or the refusal's number under kind 3
-unfoldable pub counted : Outcome ℕ → ℕ
-counted (accepted n) = n
-counted (refused n) = refusedAs n
-
--- the number that the call returns, and what it leaves in the lent levels
+-- the number that the call returns, the readings, and what it leaves in the lent levels
 unfoldable pub curtainLevelsCall : List Float → Float → List Float → List Float → ℕ × List Float
 curtainLevelsCall parm factor directions levels =
     let answer = levelsCall parm factor directions levels in

@@ -7,7 +7,8 @@ use numeric::bits::bits_of;
 ghost use mathlib.Core.Path.{_≡_};
 ghost use Rattle.curtain.specs.Answers.{answerOf};
 ghost use Rattle.curtain.specs.Levels.{answered};
-ghost use Rattle.service.specs.Curtain.{packed, counted, curtainCall, factorCall, curtainLevelsCall};
+ghost use Rattle.service.specs.Packed.{counted};
+ghost use Rattle.service.specs.Curtain.{packed, curtainCall, factorCall, curtainLevelsCall};
 
 // Kind 0 with a level's or a factor's bits, or kind 3 with a refusal's number.
 fn pack(g: Gain) -> u64

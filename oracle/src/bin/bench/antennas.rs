@@ -208,6 +208,17 @@ fn plate() {
     row("the program, a station", least(100, inputs.len(), [&mut |_| call(service::plate), &mut |_| call(reference::plate)]));
 }
 
+/// Card 14 beside the plate of the same station, an example of this type.
+fn planet(jant: u32) {
+    let path = format!("examples/type-{jant}.station");
+    let (_, input) = examples::inputs().into_iter().find(|(at, _)| *at == path).expect("an example of each type");
+    let mut texts = [[0; 8960]; 2];
+    let [ours, plates] = &mut texts;
+    let planet = &mut |_| assert!(black_box(service::planet)(&input, ours) >> 32 == 0);
+    let plate = &mut |_| assert!(black_box(service::plate)(&input, plates) > 0);
+    row(&format!("Planet text, type {jant}"), least(200, 1, [planet, plate]));
+}
+
 pub fn run() {
     println!("\n| call | Rattle µs | Rust µs | ratio |\n|---|---|---|---|");
     (0..3).for_each(maxgain);
@@ -224,6 +235,8 @@ pub fn run() {
     plate();
     println!("\n| call | preview µs | maximum gain µs | ratio |\n|---|---|---|---|");
     [(0, 2), (1, 2), (1, 8), (2, 2)].into_iter().for_each(|(mode, jant)| preview(mode, jant));
+    println!("\n| call | Planet text µs | plate µs | ratio |\n|---|---|---|---|");
+    (1..=9).for_each(planet);
     println!("\n| a curtain's 64 directions beside | one call µs | single calls µs | ratio |\n|---|---|---|---|");
     directions("one single call, integral", -99_999.0, 200, 1);
     directions("64 single calls, factor", 1.5, 20_000, 64);

@@ -28,6 +28,8 @@ mod maxgain;
 #[cfg(source)]
 mod peak;
 #[cfg(source)]
+mod planets;
+#[cfg(source)]
 mod plates;
 #[cfg(source)]
 mod preview;
@@ -87,6 +89,8 @@ const CALLS: &[Call] = &[
     ("curtain_factor", 300, curtains::compare_factor),
     #[cfg(source)]
     ("curtain_levels", 670, directions::compare),
+    #[cfg(source)]
+    ("planet", 10_000, planets::compare),
 ];
 
 /// A word of the command line: a call, with its number of cases or the gate's.

@@ -10,7 +10,8 @@ use lib.Seq.{take-all}
 use lib.Ieee.{Float}
 use Rattle.answers.specs.Outcome.{Outcome}
 use Rattle.curtain.specs.Levels.{levelsCall}
-use Rattle.service.specs.Curtain.{counted, curtainLevelsCall}
+use Rattle.service.specs.Packed.{counted}
+use Rattle.service.specs.Curtain.{curtainLevelsCall}
 use Rattle.service.proofs.curtains.hf_curtain_levels.Statement.{statement}
 use Rattle.service.proofs.curtains.hf_curtain_levels.Tie as tie
 

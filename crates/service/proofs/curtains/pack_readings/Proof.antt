@@ -1,6 +1,6 @@
 -- `pack_readings`, by its match.
 use borrow.Author.Needs.{needs}
-use Rattle.service.specs.Curtain.{counted}
+use Rattle.service.specs.Packed.{counted}
 use Rattle.service.proofs.curtains.pack_readings.Statement.{statement}
 use Rattle.service.proofs.curtains.pack_readings.Tie as tie
 

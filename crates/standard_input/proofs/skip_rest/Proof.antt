@@ -1,7 +1,7 @@
--- `plate::input::skip_rest` meets its contract: it ends, since the turns fall. Assumes nothing.
+-- `standard_input::skip_rest` meets its contract: it ends, since the turns fall. Assumes nothing.
 use native.Mathlib.Omega.{arith}
-use Rattle.plate.proofs.input.skip_rest.Statement.{statement}
-use Rattle.plate.proofs.input.skip_rest.Tie as tie
+use Rattle.standard_input.proofs.skip_rest.Statement.{statement}
+use Rattle.standard_input.proofs.skip_rest.Tie as tie
 
 abbrev Inv-loop : tie.InvT-loop
 Inv-loop fd turns₀ got₀ turns got = Unit {0}
