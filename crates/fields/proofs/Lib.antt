@@ -1,0 +1,3 @@
+-- Public are the laws that other crates cite (`Least`). The other serves the proofs here.
+pub mod Least
+mod NameParts
