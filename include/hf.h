@@ -74,12 +74,29 @@ enum hf_size {
   HF_PLATE_INPUT = 237,   /* bytes: a record, MHz, design MHz, elevation */
   HF_PLATE_TEXT = 8192,   /* bytes: the program's text, at least */
   HF_PLANET_TEXT = 8960,  /* bytes: room for any Planet text */
+  HF_MISTAKE = 6,         /* words: what a card's mistake is, and where */
+  HF_SENTENCE = 256,      /* bytes: the sentence on a card, at least */
+  HF_CARD = 8192,         /* bytes: a station's card, at least */
   HF_BOOK_ROWS = 64,      /* rows of a band book, at most; a row is three words */
   HF_TIME = 4,            /* words: year, month, day, minute of the day */
   HF_LEVELS_STATE = 66,   /* words: a ring of 64 levels, how many it holds, the next place */
   HF_LEVELS_SHOWN = 3,    /* words: how many, the greatest, the least */
   HF_PAIRS = 64,          /* pairs of azimuth and elevation of hf_curtain_levels, at most */
   HF_BOARD = 6497         /* words: how many are on, sixteen places of an id and a row, what the board shows */
+};
+
+/* What a card's first mistake is. */
+enum hf_mistake {
+  HF_MISTAKE_FIELD = 1,       /* there is no such field */
+  HF_MISTAKE_TWICE = 2,       /* given twice */
+  HF_MISTAKE_FOREIGN = 3,     /* another type's field */
+  HF_MISTAKE_SECOND_GAIN = 4, /* a second maximum gain */
+  HF_MISTAKE_TOO_FEW = 5,
+  HF_MISTAKE_TOO_MANY = 6,
+  HF_MISTAKE_NUMBER = 7,      /* not a number */
+  HF_MISTAKE_TOO_LARGE = 8,
+  HF_MISTAKE_LIMIT = 9,       /* breaks a refusal's limit */
+  HF_MISTAKE_MISSING = 10     /* a field is missing */
 };
 
 /* The seasons of frequency sheets. */
@@ -185,6 +202,22 @@ size_t hf_plate(const uint8_t *input, size_t input_len, uint8_t *text, size_t te
  * to 7, 9, 10); 10 for a vertical gain that isn't finite; 18 for a gain over 1,000 in size, in either part; 8 where text is shorter
  * than the text is, which never has more than HF_PLANET_TEXT bytes. */
 uint64_t hf_planet(const uint8_t *input, size_t input_len, uint8_t *text, size_t text_len);
+
+/* A card that people type (docs/STATION.md has its fields): its text of any bytes into the station's HF_PLATE_INPUT bytes. Returns 0;
+ * or 1 with the card's first mistake in HF_MISTAKE words: what it is (enum hf_mistake), the line, from 1, the field's number in the
+ * order of docs/STATION.md, from 1, 0 for none, which of the line's numbers it is, from 1, 0 for none, the earlier line that it names
+ * and the refusal whose limit it breaks (0 for none); or 8 where a slice has another length. What isn't written stays. */
+uint32_t hf_card(const uint8_t *text, size_t text_len, uint8_t *station, size_t station_len, uint32_t *mistake, size_t mistake_len);
+
+/* What hf_card has to say of a card, as a sentence without a line feed: its first mistake, such as "4: dipoles: 65 is over 64 (refused 6,
+ * count)", or a remark on a good card. Returns kind 0 and its length, 0 where there is nothing to say; or HF_REFUSED and 8 where out is
+ * under HF_SENTENCE bytes. */
+uint64_t hf_card_sentence(const uint8_t *text, size_t text_len, uint8_t *out, size_t out_len);
+
+/* The card of a station's HF_PLATE_INPUT bytes, which hf_card reads back to the same bytes. Returns kind 0 and its length; or HF_REFUSED
+ * and 8 where out is under HF_CARD bytes, 1 where these aren't a station's bytes or no card makes them (a record of edition 1, a slot
+ * that its type doesn't read and that isn't 0). */
+uint64_t hf_card_of(const uint8_t *station, size_t station_len, uint8_t *out, size_t out_len);
 
 /* A band book: rows of low kHz, high kHz (not included) and station id, three words each, in any order. A good book has at most
  * HF_BOOK_ROWS rows and covers every whole kHz from 2,000 up to, not including, 30,000 just once. Returns 0 for a good book; or

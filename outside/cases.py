@@ -4,7 +4,7 @@ import dataclasses
 import formulas
 import wires
 
-# A curtain has no plate, so no station file: this one is that of examples/library/curtain.c.
+# A curtain has no plate: this one is that of examples/library/curtain.c and examples/curtain.card.
 CURTAIN = [0, 0, 0, 0, 9.6, 4, 4, 9.5, -0.5, -0.5, -0.5, -0.5, -0.25, 4, 0]
 CURTAIN_ELEVATION = 9
 

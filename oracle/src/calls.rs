@@ -113,4 +113,7 @@ pub const CALLS: &[Call] = calls! {
     preview(mode: Word, floats: Floats, out: LentWords)
     curtain_levels(parm: Floats, factor: Float, directions: Floats, levels: LentFloats)
     planet(input: Bytes, text: LentBytes)
+    card(text: Bytes, station: LentBytes, mistake: LentWords)
+    card_sentence(text: Bytes, out: LentBytes)
+    card_of(station: Bytes, out: LentBytes)
 };

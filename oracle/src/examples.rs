@@ -1,8 +1,8 @@
 //! Stations with a name, in words that a reader can follow: the files of `examples/` and the stored runs of the program.
 //! `bin/write_stored.rs` writes the files, `compare` holds those that are stored to these.
-use crate::record;
+use crate::{card_examples, record};
 #[cfg(source)]
-use crate::{planet, plate};
+use crate::{planet, plate, remarks};
 
 /// A station and what is asked of it. `parm` has the slots from 0 on; those left out are 0. Its first five are the maximum gain of
 /// mode 0 (dBi), the type, the ground's dielectric constant and conductivity (S/m), and the operating MHz of mode 0.
@@ -149,7 +149,7 @@ impl Station {
     }
 }
 
-/// The stations of `examples/` by name.
+/// Antennas by name, slot by slot.
 fn stations() -> [(&'static str, Station); 13] {
     [
         ("case-p", CASE_P),
@@ -168,13 +168,30 @@ fn stations() -> [(&'static str, Station); 13] {
     ]
 }
 
-/// Their inputs; document 01's Case Q is an empty one, and one is an antenna's record of edition 1.
-fn named() -> Vec<(&'static str, Vec<u8>)> {
-    let others = [("case-q", vec![]), ("edition-1", TYPE_1.in_edition(1))];
-    stations().iter().map(|(name, station)| (*name, station.input())).chain(others).collect()
+/// The stations of `examples/`: what its cards make, for the nine types the antennas above with both frequencies in their slots too;
+/// those above that have no card; document 01's Case Q, which is empty; and a record of edition 1.
+fn named() -> Vec<(String, Vec<u8>)> {
+    let cards = card_examples::stations();
+    let of_card = |name: &str| cards.iter().find(|(card, _)| card == name).map(|(_, station)| station);
+    let type_1 = of_card("type-1").expect("a card of type 1");
+    let others = [("case-q".to_string(), vec![]), ("edition-1".to_string(), type_1.in_edition(1))];
+    let without = stations().into_iter().filter(|(name, _)| of_card(name).is_none());
+    let without = without.map(|(name, station)| (name.to_string(), station.input()));
+    without.chain(cards.iter().map(|(name, station)| (name.clone(), station.bytes()))).chain(others).collect()
 }
 
-/// The input of each station of `examples/` in editions 0 and 1.
+/// The plates of the antennas above and of their cards.
+#[cfg(source)]
+pub fn beside_cards() -> Vec<(&'static str, [String; 2])> {
+    let cards = card_examples::stations();
+    let pair = |(name, station): (&'static str, Station)| {
+        let (_, card) = cards.iter().find(|(card, _)| card == name)?;
+        Some((name, [plate::output(&station.input()), plate::output(&card.bytes())]))
+    };
+    stations().into_iter().filter_map(pair).collect()
+}
+
+/// The input of each antenna in editions 0 and 1.
 pub fn editions() -> Vec<(&'static str, [Vec<u8>; 2])> {
     stations().iter().map(|(name, station)| (*name, [0, 1].map(|edition| station.in_edition(edition)))).collect()
 }
@@ -216,7 +233,7 @@ fn edition_1() -> Vec<Vec<u8>> {
 /// The inputs of the crate `test_plate` in its order: an antenna of each type, floors, then the refusals, the lengths and edition 1.
 fn cases() -> Vec<Vec<u8>> {
     let is_antenna = |name: &str| name.starts_with("type-") || name == "relative";
-    let antennas = named().into_iter().filter(|(name, _)| is_antenna(name)).map(|(_, input)| input);
+    let antennas = stations().into_iter().filter(|(name, _)| is_antenna(name)).map(|(_, station)| station.input());
     antennas.chain(refusals()).chain(lengths()).chain(edition_1()).collect()
 }
 
@@ -224,20 +241,27 @@ fn cases() -> Vec<Vec<u8>> {
 pub fn inputs() -> Vec<(String, Vec<u8>)> {
     let examples = named().into_iter().map(|(name, input)| (format!("examples/{name}.station"), input));
     let cases = ('a'..='z').zip(cases()).map(|(letter, input)| (format!("crates/test_plate/data/{letter}"), input));
-    let stdins =
-        [("plate", CASE_P), ("planet", TYPE_1)].map(|(program, station)| (format!("crates/{program}/stdin"), station.input()));
+    let stdins = [("plate", CASE_P), ("planet", TYPE_1), ("station_remarks", TYPE_7)];
+    let stdins = stdins.map(|(program, station)| (format!("crates/{program}/stdin"), station.input()));
     examples.chain(cases).chain(stdins).collect()
 }
 
-/// The stored texts that the programs must write, by the oracle's own `plate` and `planet`.
+/// The stored texts that the programs must write, by the oracle's own `plate`, `planet` and remarks.
 #[cfg(source)]
 pub fn texts() -> Vec<(String, Vec<u8>)> {
-    let both = |(name, input): (&str, Vec<u8>)| {
+    let both = |(name, input): (String, Vec<u8>)| {
         [("txt", plate::output(&input)), ("planet", planet::output(&input))]
             .map(|(kind, text)| (format!("examples/{name}.{kind}"), text.into_bytes()))
     };
     let examples = named().into_iter().flat_map(both);
     let plates = cases().iter().map(|input| plate::output(input)).collect();
-    let runs = [("plate", plate::output(&CASE_P.input())), ("test_plate", plates), ("planet", planet::output(&TYPE_1.input()))];
-    examples.chain(runs.map(|(program, text)| (format!("crates/{program}/stdout"), text.into_bytes()))).collect()
+    let remarks = remarks::remarks(&TYPE_7.input()).iter().map(|remark| format!("{remark}\n")).collect();
+    let runs = [
+        ("plate", plate::output(&CASE_P.input())),
+        ("test_plate", plates),
+        ("planet", planet::output(&TYPE_1.input())),
+        ("station_remarks", remarks),
+    ];
+    let runs = runs.map(|(program, text)| (format!("crates/{program}/stdout"), text.into_bytes()));
+    examples.chain(runs).chain(card_examples::said()).collect()
 }

@@ -9,6 +9,12 @@ pub mod source {
 pub mod expected {
     include!(concat!(env!("OUT_DIR"), "/impostor/expected.rs"));
 }
+pub mod cards {
+    include!(concat!(env!("OUT_DIR"), "/impostor/cards.rs"));
+}
+pub mod card_text {
+    include!(concat!(env!("OUT_DIR"), "/impostor/card_text.rs"));
+}
 pub mod planet {
     include!(concat!(env!("OUT_DIR"), "/impostor/planet.rs"));
 }

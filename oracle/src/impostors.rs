@@ -24,6 +24,11 @@ const PLANET: Impostor = Impostor { name: "", call: "planet", file: "planet.rs",
 /// Of its hundredths.
 const HUNDREDTHS: Impostor = Impostor { after: "pub fn hundredths", old: "(200 * m + (1 << k)) / (1 << (k + 1))", ..PLANET };
 
+/// Of the card that people type.
+const CARD: Impostor = Impostor { name: "", call: "card", file: "cards.rs", after: "", old: "", new: "" };
+/// Of the card that is written back.
+const WRITTEN: Impostor = Impostor { call: "card_of", file: "card_text.rs", ..CARD };
+
 pub const IMPOSTORS: &[Impostor] = &[
     Impostor { name: "a(90) mended", after: "fn trigfun", old: "a[90] = (90.05 * Q1).rule_sin();", new: "", ..SOURCE },
     Impostor { name: "b(90) mended", after: "fn trigfun", old: "b[90] = (90.105 * Q1).rule_cos();", new: "", ..SOURCE },
@@ -168,4 +173,68 @@ pub const IMPOSTORS: &[Impostor] = &[
         new: "if text.len() < 8192 { return Err(SPACE) } else { planet::text(input)? }",
         ..PLANET
     },
+    Impostor {
+        name: "CR is part of a word",
+        after: "fn words",
+        old: "b\" \\t\\r\".contains(byte)",
+        new: "b\" \\t\".contains(byte)",
+        ..CARD
+    },
+    Impostor {
+        name: "a remark only at a line's start",
+        after: "fn words",
+        old: "line.split(|byte| *byte == b'#').next().unwrap_or(line)",
+        new: "if line.first() == Some(&b'#') { &line[..0] } else { line }",
+        ..CARD
+    },
+    Impostor {
+        name: "a byte-order mark is a word",
+        after: "pub fn lines",
+        old: "text.strip_prefix(b\"\\xef\\xbb\\xbf\").unwrap_or(text)",
+        new: "text",
+        ..CARD
+    },
+    Impostor {
+        name: "a number too many accepted",
+        after: "fn number_mistake",
+        old: "words.len() != count",
+        new: "words.len() < count",
+        ..CARD
+    },
+    Impostor {
+        name: "a field given twice accepted",
+        after: "fn line_mistake",
+        old: "line_of(&self.lines, name).filter(|earlier| *earlier < line)",
+        new: "None::<usize>",
+        ..CARD
+    },
+    Impostor {
+        name: "a missing field is 0",
+        after: "pub fn mistake",
+        old: "self.missing()",
+        new: "self.missing().filter(|_| self.mode.is_none())",
+        ..CARD
+    },
+    Impostor { name: "65 dipoles accepted", after: "fn broken", old: "x > 64.0", new: "x > 65.0", ..CARD },
+    Impostor { name: "64 dipoles refused", after: "fn broken", old: "x > 64.0", new: "x >= 64.0", ..CARD },
+    Impostor { name: "the band in mode 1 too", after: "fn broken", old: "self.mode == Some(1)", new: "false", ..CARD },
+    Impostor {
+        name: "mode by the last maximum gain",
+        after: "fn mode_of",
+        old: "lines.iter().find_map(mode)",
+        new: "lines.iter().rev().find_map(mode)",
+        ..CARD
+    },
+    Impostor { name: "a type rounded", after: "fn type_of", old: "*jant as f32 == x", new: "*jant as f32 == x.round()", ..CARD },
+    Impostor {
+        name: "41 bytes shown",
+        call: "card_sentence",
+        file: "card_text.rs",
+        after: "fn shown",
+        old: "word.len() > SHOWN",
+        new: "word.len() > SHOWN + 1",
+    },
+    Impostor { name: "three decimals at least", after: "pub fn typed", old: "(0..=149)", new: "(3..=149)", ..WRITTEN },
+    Impostor { name: "decimals cut off", after: "fn rounded", old: "*next >= b'5'", new: "false", ..WRITTEN },
+    Impostor { name: "an unnamed slot forgotten", after: "pub fn written", old: "back.bytes() == bytes", new: "true", ..WRITTEN },
 ];

@@ -7,6 +7,9 @@ pub mod books;
 pub mod broken;
 pub mod calendar;
 pub mod calls;
+pub mod card_examples;
+pub mod card_text;
+pub mod cards;
 pub mod examples;
 #[cfg(source)]
 pub mod expected;
@@ -30,6 +33,8 @@ pub mod record;
 pub mod records;
 #[cfg(source)]
 pub mod reference;
+#[cfg(source)]
+pub mod remarks;
 pub mod report;
 pub mod rules;
 pub mod service;
@@ -37,4 +42,5 @@ pub mod service;
 pub mod source;
 pub mod stations;
 pub mod stored;
+pub mod typing;
 pub mod why;

@@ -12,7 +12,7 @@ use crate::levels::{self as strengths, Run, SHOWN};
 use crate::random::Random;
 use crate::record::{self, BYTES, WORDS};
 use crate::stored::{head, lent_bytes, lent_floats, lent_words, place, Record, ROOT};
-use crate::{books, broken, planet, planets, records, stations};
+use crate::{books, broken, cards, planet, planets, records, stations, typing};
 
 /// The cases that an impostor has.
 pub const CASES: usize = 3;
@@ -51,6 +51,9 @@ fn inputs_of(call: &Call) -> (u64, Inputs) {
         "preview" => (120, preview),
         "curtain_levels" => (120, curtain_levels),
         "planet" => (120, planet),
+        "card" => (140, card),
+        "card_sentence" => (90, card_sentence),
+        "card_of" => (60, card_of),
         name => panic!("{name} has no inputs"),
     }
 }
@@ -444,6 +447,37 @@ fn planet(random: &mut Random, _: u64) -> Vec<Value> {
     input.truncate(240);
     let room = planets::room(random, &planet::text(&input).ok());
     vec![Value::Bytes(input), lent_bytes(room)]
+}
+
+/// A card that is not long, so that a list is short.
+fn short_card(random: &mut Random) -> Vec<u8> {
+    loop {
+        let text = typing::card(random);
+        if text.len() <= 400 {
+            return text;
+        }
+    }
+}
+
+fn card(random: &mut Random, k: u64) -> Vec<Value> {
+    let (station, mistake) = match k % 40 {
+        38 => (random.pick(&[0, cards::STATION - 1, cards::STATION + 1]), 6),
+        39 => (cards::STATION, random.pick(&[0, 5, 7])),
+        _ => (cards::STATION, 6),
+    };
+    vec![Value::Bytes(short_card(random)), lent_bytes(station), lent_words(mistake)]
+}
+
+fn card_sentence(random: &mut Random, k: u64) -> Vec<Value> {
+    let room = if k % 20 == 19 { random.pick(&[0, 255, 300]) } else { 256 };
+    vec![Value::Bytes(short_card(random)), lent_bytes(room)]
+}
+
+fn card_of(random: &mut Random, k: u64) -> Vec<Value> {
+    let mut station = typing::station(random);
+    station.truncate(240);
+    let room = if k % 20 == 19 { random.pick(&[0, 8191, 8193]) } else { 8192 };
+    vec![Value::Bytes(station), lent_bytes(room)]
 }
 
 /// Whether a stored record's input is kept: those of a number are made anew, a case goes with its impostor.

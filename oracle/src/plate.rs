@@ -23,13 +23,17 @@ pub struct Steps {
     pub row: [f32; ROW],
 }
 
-/// Reader, maximum gain, set-up, row: the first that refuses gives the number.
-pub fn steps(input: &[u8]) -> Result<Steps, Refusal> {
+/// What the maximum gain is found by, as the input has it.
+pub fn gains(input: &[u8]) -> Result<Gains, Refusal> {
     if input.len() != INPUT {
         return Err(1);
     }
-    let words = record::read(&input[..record::BYTES])?;
-    let (giso, parm) = expected::maxgain(&gains_of(&words, input))?;
+    Ok(gains_of(&record::read(&input[..record::BYTES])?, input))
+}
+
+/// Reader, maximum gain, set-up, row: the first that refuses gives the number.
+pub fn steps(input: &[u8]) -> Result<Steps, Refusal> {
+    let (giso, parm) = expected::maxgain(&gains(input)?)?;
     let antenna = expected::set_up(&parm, TABLE)?;
     let elevation = float_at(input, 233);
     let (row, _) = expected::row(&antenna, elevation, giso)?;

@@ -1,5 +1,6 @@
 //! What `service` exports, in Rust over `expected`: the same arguments, the same words out, lent buffers left alone on a refusal.
 //! A slice of the wrong length is refused as 8 before anything else, except a lent table and row, whose place is document 01's.
+pub use super::card_text::{card, card_of, card_sentence};
 use super::expected::{self, Gains, Refusal, SPACE, TABLE};
 use super::planet;
 use super::plate as program;

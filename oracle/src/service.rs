@@ -81,6 +81,16 @@ mod raw {
             levels: *mut f32,
             levels_len: usize,
         ) -> u64;
+        pub fn hf_card(
+            text: *const u8,
+            text_len: usize,
+            station: *mut u8,
+            station_len: usize,
+            mistake: *mut u32,
+            mistake_len: usize,
+        ) -> u32;
+        pub fn hf_card_sentence(text: *const u8, text_len: usize, out: *mut u8, out_len: usize) -> u64;
+        pub fn hf_card_of(station: *const u8, station_len: usize, out: *mut u8, out_len: usize) -> u64;
     }
 }
 
@@ -252,4 +262,20 @@ pub fn curtain_levels(parm: &[f32], factor: f32, directions: &[f32], levels: &mu
     let (levels_len, levels) = (levels.len(), levels.as_mut_ptr());
     // SAFETY: as above.
     unsafe { raw::hf_curtain_levels(parm.as_ptr(), parm.len(), factor, directions, directions_len, levels, levels_len) }
+}
+
+pub fn card(text: &[u8], station: &mut [u8], mistake: &mut [u32]) -> u32 {
+    let (station_len, station) = (station.len(), station.as_mut_ptr());
+    // SAFETY: as above.
+    unsafe { raw::hf_card(text.as_ptr(), text.len(), station, station_len, mistake.as_mut_ptr(), mistake.len()) }
+}
+
+pub fn card_sentence(text: &[u8], out: &mut [u8]) -> u64 {
+    // SAFETY: as above.
+    unsafe { raw::hf_card_sentence(text.as_ptr(), text.len(), out.as_mut_ptr(), out.len()) }
+}
+
+pub fn card_of(station: &[u8], out: &mut [u8]) -> u64 {
+    // SAFETY: as above.
+    unsafe { raw::hf_card_of(station.as_ptr(), station.len(), out.as_mut_ptr(), out.len()) }
 }

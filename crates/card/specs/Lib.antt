@@ -5,4 +5,5 @@ pub mod Mistake
 pub mod Mistakes
 pub mod Places
 pub mod Reading
+pub mod Good
 pub mod Inner

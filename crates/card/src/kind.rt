@@ -69,7 +69,7 @@ fn mode_in(text: &[u8], iant: usize) -> u8
     mode_of(field_in(&text[from..to]))
 }
 
-pub(crate) fn kind_in(text: &[u8]) -> Kind
+pub fn kind_in(text: &[u8]) -> Kind
     ensures { λ r. ⌜ r ≡ kindIn (Card.cardOf (now (text .entry))) ⌝ }
 {
     let iant = type_in(text);

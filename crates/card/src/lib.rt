@@ -3,10 +3,18 @@
 // and its field: `readOf` (specs/Reading.antt), over what the lines' words are (specs/Card.antt), the
 // card's kind (specs/Kind.antt), the order of the mistakes (specs/Mistakes.antt) and the places of the
 // numbers (specs/Places.antt). `station` writes the 237 bytes that `plate` takes (`writtenOf`).
+//
+// Proved of the definitions:
+//
+// - a card is accepted just where it is a good one, in the sentences of specs/Good.antt
+//   (`accepted-good`, `good-read`, proofs/Laws.antt);
+// - each number of an accepted card is one that its field takes, and stands in its place
+//   (`accepted-number`); its type is 1 to 9, in slot 1, or it is the curtain (`accepted-type`);
+// - the same lines in another order read to the same station (`order-free`, proofs/Order.antt).
 mod bytes;
 mod checks;
-mod kind;
-mod line;
+pub mod kind;
+pub mod line;
 pub mod mistakes;
 mod places;
 

@@ -86,6 +86,14 @@ pub(crate) fn find(text: &[u8], sought: Sought) -> Line
     }
 }
 
+// The first line of a field, 0 where there is none.
+pub fn line_of(text: &[u8], f: usize) -> usize
+    ensures { λ r. ⌜ r ≡ Card.lineOf (Card.cardOf (now (text .entry))) f ⌝ }
+{
+    let line = find(text, Sought::Field(f));
+    line.number
+}
+
 // The field that a line is about, 0 for none.
 pub(crate) fn field_in(line: &[u8]) -> usize
     ensures { λ r. ⌜ r ≡ Card.fieldIn (wordsOf (now (line .entry))) ⌝ }

@@ -1,11 +1,15 @@
 -- `least`: what it finds is the first number that passes the test, and it finds none only where there is none. Assumes nothing.
-use mathlib.Core.Path.{_≡_, refl}
+use mathlib.Core.Path.{_≡_, refl, sym, _∙_}
 use mathlib.Core.Logic.{⊎-elim}
-use mathlib.Core.Bool.{Bool, true, false, cond}
+use mathlib.Core.Bool.{Bool, true, false, cond, false≢true}
 use Prim.Native.Nat.{ℕ, zero, suc, _+_, _-_, _≤_, _<_}
 use native.Mathlib.Nat.{eq-or-lt-of-le, le-of-suc-le-suc, le-refl, zero-add, suc-add}
 use native.Mathlib.Omega.{arith}
 use Rattle.fields.specs.Least.{orElse, least}
+
+pub by-test : {P : Type 0} (t : Bool) → (t ≡ true → P) → (t ≡ false → P) → P
+by-test true p q = p refl
+by-test false p q = q refl
 
 module _ (test : ℕ → Bool) where
   -- ---- a search, one number after the other
@@ -72,3 +76,21 @@ module _ (test : ℕ → Bool) where
   unfolding least
   least-none zero e i h = absurd (omega arith)
   least-none (suc n) e i h = by-last (λ (r : ℕ). r ≡ 0 → test (suc i) ≡ false) n (λ p t q. absurd (omega arith)) (λ p t q. ⊎-elim (λ (s : i ≡ n). rw s t) (λ (l : i < n). least-none n p i l) (eq-or-lt-of-le (le-of-suc-le-suc h))) (λ k p q. absurd (omega arith)) e
+
+  -- where some number passes, one is found, and not after it
+  pub least-first : (n i : ℕ) → test (suc i) ≡ true → i < n → (0 < least test n) × (least test n ≤ suc i)
+  least-first zero i t h = absurd (omega arith)
+  least-first (suc n) i t h =
+      ⊎-elim
+      (λ (s : i ≡ n). by-last Good n (λ e b. (omega arith, omega arith)) (λ e b. absurd (false≢true (sym b ∙ rw s at t))) (λ k e. (omega arith, omega (arith, least-le n))))
+      (λ (l : i < n). by-last Good n (λ e b. absurd (false≢true (sym (least-none n e i l) ∙ t))) (λ e b. absurd (false≢true (sym (least-none n e i l) ∙ t))) (λ k e. rw e at (least-first n i t l)))
+      (eq-or-lt-of-le (le-of-suc-le-suc h))
+    where
+      Good : ℕ → Type 0
+      Good r = (0 < r) × (r ≤ suc i)
+
+  -- where none passes, none is found
+  pub least-all : (n : ℕ) → ((i : ℕ) → i < n → test (suc i) ≡ false) → least test n ≡ 0
+  unfolding least
+  least-all zero none = refl
+  least-all (suc n) none = least-more n (least-all n (λ i h. none i (omega arith))) (none n (omega arith))

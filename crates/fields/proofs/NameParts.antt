@@ -21,7 +21,7 @@ abbrev pub partOf : ℕ → List ℕ
 partOf f = take (nameStart f - 1 - nameStart (f - 1)) (drop (nameStart (f - 1)) rowOfNames)
 
 wellPlaced : ℕ → Bool
-wellPlaced f = leb 1 (nameStart f) && (leb (nameStart (f - 1)) (nameStart f - 1) && (leb (nameStart f - 1) (length rowOfNames) && alike (partOf f) (nameOf f)))
+wellPlaced f = leb 1 (nameStart f) && (leb (nameStart (f - 1)) (nameStart f - 1) && (leb (nameStart f - 1) (length rowOfNames) && (leb (nameStart f - 1 - nameStart (f - 1)) 10 && alike (partOf f) (nameOf f))))
 
 misplaced : ℕ → Bool
 misplaced f = not (wellPlaced f)
@@ -34,6 +34,7 @@ pub record Placed (f : ℕ) : Type 0 where
   pub after : 1 ≤ nameStart f
   pub ordered : nameStart (f - 1) ≤ nameStart f - 1
   pub inside : nameStart f - 1 ≤ length rowOfNames
+  pub short : nameStart f - 1 - nameStart (f - 1) ≤ 10
   pub bytes : partOf f ≡ nameOf f
 
 pub placed : (f : ℕ) → 1 ≤ f → f ≤ FIELDS → Placed f
@@ -44,7 +45,14 @@ placed f h k =
     let one = and-eq-true-iff (leb 1 (nameStart f)) _ .0 t in
     let two = and-eq-true-iff (leb (nameStart (f - 1)) (nameStart f - 1)) _ .0 (one .1) in
     let three = and-eq-true-iff (leb (nameStart f - 1) (length rowOfNames)) _ .0 (two .1) in
-    record { after = leb-true _ _ (one .0); ordered = leb-true _ _ (two .0); inside = leb-true _ _ (three .0); bytes = alike-equal _ _ (three .1) }
+    let four = and-eq-true-iff (leb (nameStart f - 1 - nameStart (f - 1)) 10) _ .0 (three .1) in
+    record {
+      after = leb-true _ _ (one .0);
+      ordered = leb-true _ _ (two .0);
+      inside = leb-true _ _ (three .0);
+      short = leb-true _ _ (four .0);
+      bytes = alike-equal _ _ (four .1);
+    }
 
 -- no other number has a name
 pub no-name : (word : List ℕ) → eqb (length word) 0 ≡ alike [] word

@@ -108,6 +108,10 @@ hasField kind f = not (eqb (rowOf kind f) 0)
 unfoldable pub countOf : Kind → ℕ → ℕ
 countOf kind f = rowNumber (rowOf kind f) .count
 
+-- the place of its first number; the others go to the places behind it
+unfoldable pub firstPlace : Kind → ℕ → ℕ
+firstPlace kind f = rowNumber (rowOf kind f) .first
+
 -- the field that has place p, and which of its numbers stands there; field 0 where none has
 unfoldable pub sourceOf : Kind → ℕ → Source
 sourceOf kind p = let it = rowNumber (rowAt kind p) in record { field = it .field; number = numberIn it p }

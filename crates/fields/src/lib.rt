@@ -3,7 +3,8 @@
 // specs/Names.antt); the table (specs/Table.antt) says which kinds have it, how many numbers it has
 // and in which places of the station they stand; specs/Limits.antt says what numbers it takes.
 //
-// Proved of the table (proofs/Laws.antt): no place of a kind has two fields.
+// Proved (proofs/Laws.antt): no two fields have one name (`name-back`), and each number of a field of a
+// kind has a place that it shares with no other (`number-placed`).
 pub mod limits;
 pub mod names;
 pub mod table;

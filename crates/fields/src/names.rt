@@ -1,11 +1,13 @@
 // The names of the fields, in the order in which a missing one is told.
 use lines::same;
+use words::bytes::push_bytes;
 ghost use mathlib.Core.Path.{_≡_};
-ghost use Prim.Native.Nat.{_-_, _≤_};
+ghost use Prim.Native.Nat.{_+_, _-_, _≤_};
 ghost use lib.ListN.{length, take, drop};
+ghost use Rattle.words.specs.Writing.{Wrote};
 ghost use Rattle.lines.specs.Alike.{alike};
 ghost use Rattle.fields.specs.Names.{FIELDS, nameOf, fieldOf};
-ghost use Rattle.fields.specs.Inner.{nameStart};
+ghost use Rattle.fields.specs.Inner.{rowOfNames, nameStart};
 
 pub const TYPE: usize = 1;
 
@@ -109,6 +111,13 @@ fn is_part(text: &[u8], from: usize, to: usize, word: &[u8]) -> bool
     same(&text[from..to], word)
 }
 
+// The names in a row.
+fn row_of_names() -> [u8; 185]
+    ensures { λ r. ⌜ r ≡ rowOfNames ⌝ }
+{
+    *b"type ground dipoles height slew screen reflector start elements lengths boom heights feeder leg angle bays stacks dipole spacing excitation gain gain-ratio gain-mhz mhz design elevation"
+}
+
 // Whether a word is the name of field f.
 pub fn is_name(f: usize, word: &[u8]) -> bool
     ensures { λ r. ⌜ r ≡ alike (nameOf f) (now (word .entry)) ⌝ }
@@ -119,12 +128,8 @@ pub fn is_name(f: usize, word: &[u8]) -> bool
     if FIELDS < f {
         return word.len() == 0;
     }
-    is_part(
-        b"type ground dipoles height slew screen reflector start elements lengths boom heights feeder leg angle bays stacks dipole spacing excitation gain gain-ratio gain-mhz mhz design elevation",
-        name_start(f - 1),
-        name_start(f) - 1,
-        word,
-    )
+    let row = row_of_names();
+    is_part(&row, name_start(f - 1), name_start(f) - 1, word)
 }
 
 // The field that a word names, 0 where it names none.
@@ -139,4 +144,27 @@ pub fn field_of(word: &[u8]) -> usize
         }
     }
     0
+}
+
+// A part of a text.
+fn push_part(out: &mut [u8], at: usize, text: &[u8], from: usize, to: usize) -> usize
+    requires { ⌜ (from ≤ to) × (to ≤ length (now text)) × (at + (to - from) ≤ length (now out)) ⌝ }
+    ensures { λ r. ⌜ Wrote (now (out .entry)) at (take (to - from) (drop from (now (text .entry)))) (now (out .exit)) r ⌝ }
+{
+    push_bytes(out, at, &text[from..to])
+}
+
+// Inner step: the name of field f.
+pub fn push_name(out: &mut [u8], at: usize, f: usize) -> usize
+    requires { ⌜ at + 10 ≤ length (now out) ⌝ }
+    ensures { λ r. ⌜ Wrote (now (out .entry)) at (nameOf f) (now (out .exit)) r ⌝ }
+{
+    if f == 0 {
+        return at;
+    }
+    if FIELDS < f {
+        return at;
+    }
+    let row = row_of_names();
+    push_part(out, at, &row, name_start(f - 1), name_start(f) - 1)
 }

@@ -29,7 +29,7 @@ use crate::names::START;
 use crate::names::TYPE;
 ghost use mathlib.Core.Path.{_≡_};
 ghost use Prim.Native.Nat.{_≤_};
-ghost use Rattle.fields.specs.Table.{LAST, isMaximumGain, modeOf, rowNumber, inKind, numberIn, rowOf, rowAt, hasField, countOf, sourceOf};
+ghost use Rattle.fields.specs.Table.{LAST, isMaximumGain, modeOf, rowNumber, inKind, numberIn, rowOf, rowAt, hasField, countOf, firstPlace, sourceOf};
 
 // A field of the types `from` to `to`: it has `count` numbers, for the places from `first` on.
 struct Row {
@@ -189,6 +189,13 @@ pub fn count_of(kind: Kind, f: usize) -> usize
     ensures { λ r. ⌜ r ≡ countOf kind f ⌝ }
 {
     nth_row(row_of(kind, f)).count
+}
+
+// The place of its first number; the others go to the places behind it.
+pub fn first_place(kind: Kind, f: usize) -> usize
+    ensures { λ r. ⌜ r ≡ firstPlace kind f ⌝ }
+{
+    nth_row(row_of(kind, f)).first
 }
 
 // Which number stands in a place.

@@ -4,6 +4,7 @@ mod arrays;
 pub mod boards;
 pub mod books;
 pub mod calendars;
+pub mod cards;
 pub mod curtains;
 pub mod gains;
 pub mod leaf;

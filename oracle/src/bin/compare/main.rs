@@ -11,6 +11,7 @@ mod behind;
 mod board;
 mod books;
 mod calendar;
+mod cards;
 mod cases;
 #[cfg(source)]
 mod curtains;
@@ -91,6 +92,8 @@ const CALLS: &[Call] = &[
     ("curtain_levels", 670, directions::compare),
     #[cfg(source)]
     ("planet", 10_000, planets::compare),
+    ("card", 30_000, cards::compare),
+    ("card_text", 20_000, cards::compare_text),
 ];
 
 /// A word of the command line: a call, with its number of cases or the gate's.

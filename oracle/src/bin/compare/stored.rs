@@ -15,11 +15,23 @@ fn held(name: &str, files: Vec<(String, Vec<u8>)>) -> Comparison {
     found
 }
 
+/// The cards of `examples/` beside the same antennas slot by slot: the same plates.
+#[cfg(source)]
+fn beside_cards() -> Comparison {
+    let mut found = Comparison::new("cards beside their slots");
+    for (name, [slots, card]) in examples::beside_cards() {
+        found.hold(&card, &slots, || format!("examples/{name}.card has another plate than the slots of src/examples.rs"));
+    }
+    found
+}
+
 pub fn compare(_: u64) -> Vec<Comparison> {
     vec![
         held("stored stations", examples::inputs()),
         #[cfg(source)]
         held("stored texts", examples::texts()),
+        #[cfg(source)]
+        beside_cards(),
         #[cfg(source)]
         held("stored answers", lists::files()),
     ]

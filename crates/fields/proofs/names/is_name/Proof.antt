@@ -1,22 +1,20 @@
 -- `is_name`: a name is a part of the row of names. Assumes nothing.
-use mathlib.Core.Path.{ap, _∙_}
+use mathlib.Core.Path.{_≡_, ap, _∙_}
 use native.Mathlib.Omega.{arith}
 use Prim.Native.Nat.{ℕ}
 use mathlib.Core.List.{List}
-use Rattle.quoted.specs.Quoted.{quoted}
 use Rattle.lines.specs.Alike.{alike}
 use Rattle.fields.specs.Names.{nameOf}
-use Rattle.fields.specs.Inner.{rowOfNames}
 use Rattle.fields.proofs.NameParts.{Placed, placed, no-name, nameless}
 use borrow.Author.Needs.{needs}
 use Rattle.fields.proofs.names.is_name.Statement.{statement}
 use Rattle.fields.proofs.names.is_name.Tie as tie
 
 -- the field is one that there is
-at-field : (c : tie.After-name-start2) → Placed (c .before .before .before .before .before .before .args .f)
+at-field : (c : tie.After-name-start2) → Placed (c .before .before .before .before .before .before .before .args .f)
 at-field c =
-    let start = c .before .before .before .before .before .before in
-    placed (start .args .f) (omega (arith, c .before .before .before .before .if1 .left)) (c .before .before .before .if2 .left)
+    let tested = c .before .before .before .before in
+    placed (tested .before .before .before .args .f) (omega (arith, tested .before .if1 .left)) (tested .if2 .left)
 
 returns : tie.Need-returns
 unfolding nameOf
@@ -24,6 +22,9 @@ returns c = rw (c .if1 .taken) (no-name _)
 
 returns-2 : tie.Need-returns-2
 returns-2 c = rw (nameless _ (c .if2 .taken)) (no-name _)
+
+row-of-names-requires : tie.Need-row-of-names-requires
+row-of-names-requires c κs = search needs
 
 slice-aggregate-is-part : tie.Need-slice-aggregate-is-part
 slice-aggregate-is-part c = search needs
@@ -41,14 +42,12 @@ sub-is-part : tie.Need-sub-is-part
 sub-is-part c = rw (c .name-start2 .ensures) (at-field c .after)
 
 is-part-requires : tie.Need-is-part-requires
-unfolding rowOfNames quoted
-is-part-requires c κs = rw (c .name-start2 .ensures, c .before .name-start .ensures) (at-field c .ordered, at-field c .inside)
+is-part-requires c κs = rw (c .name-start2 .ensures, c .before .name-start .ensures, c .before .before .before .row-of-names .ensures) (at-field c .ordered, at-field c .inside)
 
 returns-3 : tie.Need-returns-3
-unfolding rowOfNames quoted
 returns-3 c =
-    let a = c .before .before .before .before .before .before .before .args in
-    c .is-part .ensures ∙ rw (c .before .name-start2 .ensures, c .before .before .name-start .ensures) (ap (λ (s : List ℕ). alike s (a .word .now)) (at-field (c .before) .bytes))
+    let a = c .before .before .before .before .before .before .before .before .args in
+    c .is-part .ensures ∙ rw (c .before .name-start2 .ensures, c .before .before .name-start .ensures, c .before .before .before .before .row-of-names .ensures) (ap (λ (s : List ℕ). alike s (a .word .now)) (at-field (c .before) .bytes))
 
 pub is-name-spec : {M : Type 1} → statement M
 is-name-spec =
@@ -56,6 +55,7 @@ is-name-spec =
     (tie.spec
     returns
     returns-2
+    row-of-names-requires
     slice-aggregate-is-part
     sub-name-start
     name-start-requires
