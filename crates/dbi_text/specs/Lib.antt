@@ -1,2 +1,0 @@
--- The definitions that contracts cite: one file for each subject.
-pub mod Dbi

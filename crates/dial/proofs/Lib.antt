@@ -1,2 +1,0 @@
--- Public is what other crates cite.
-pub mod Laws

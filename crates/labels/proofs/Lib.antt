@@ -1,3 +1,0 @@
--- Public is what other crates cite.
-pub mod Put
-pub mod Lengths

@@ -1,1 +1,0 @@
--- No laws yet that other crates cite.
