@@ -1,6 +1,8 @@
 // The numbers of the refusals of documents 01 and 02, by their names there. What an answer is stands in
 // specs/Outcome.antt, and the same numbers for definitions in specs/Refusals.antt.
 
+#![tactic(auto)]
+
 pub const RECORD: u8 = 1;
 
 // An input float isn't finite.

@@ -10,7 +10,7 @@ use model::types::type_ok;
 
 // What a call says of its own arguments: its floats are finite, its elevation is one that it takes,
 // the space lent for its answer is right, and the table is the record's own.
-#[derive(Drop)]
+#[derive(Clone, Copy)]
 pub struct Asked {
     pub values: bool,
     pub aim: bool,

@@ -10,7 +10,7 @@ use numeric::float::is_finite;
 use pattern::gainrel::gainrel;
 
 // A gain in dBi with its kind, or the number of a refusal.
-#[derive(Drop)]
+#[derive(Clone, Copy)]
 pub enum Gain {
     Level(f32),
     Floor(f32),

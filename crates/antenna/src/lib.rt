@@ -1,3 +1,5 @@
+#![tactic(auto)]
+
 // The antenna of twenty parameters: document 01, part 7. Each call takes any arguments, and its
 // answer is its definition's, refusals and lent floats included:
 //

@@ -3,7 +3,7 @@ use model::record::Model;
 use search::record::Peak;
 
 // What set-up leaves beside the lent table: all that gain and row read.
-#[derive(Drop)]
+#[derive(Clone, Copy)]
 pub struct Antenna {
     pub model: Model,
     pub peak: Peak,

@@ -24,14 +24,14 @@ use search::record::Peak;
 use trig::trigfun;
 
 // How often the search read the gain, or the number of a refusal.
-#[derive(Drop)]
+#[derive(Clone, Copy)]
 pub enum Prepared {
     Ready(u64),
     Refused(u8),
 }
 
 // The answer with the antenna record, which is of no type beside a refusal: an enum holds no arrays.
-#[derive(Drop)]
+#[derive(Clone, Copy)]
 pub struct SetUp {
     pub answer: Prepared,
     pub antenna: Antenna,

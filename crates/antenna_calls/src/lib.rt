@@ -1,3 +1,5 @@
+#![tactic(auto)]
+
 // The planning service's rhythm as `service` lends it: set up once into a lent antenna record and table,
 // then gains and rows over both. `setup`, `gain` and `plate_row` take any floats, and any words are read
 // as a record; each is one equation with its definition (specs/Antennas.antt), what a refusal leaves

@@ -8,3 +8,5 @@
 // proofs/FrontToBack.antt; that no number of a row is -0: proofs/NoMinusZero.antt. The mirror laws of
 // the gain: proofs/Mirror.antt and proofs/CrossedMirror.antt. How often the search reads the gain:
 // proofs/ReadingCount.antt; between which numbers the gain lies where it read: proofs/PeakNumbers.antt.
+
+#![tactic(auto)]

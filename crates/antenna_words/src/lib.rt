@@ -1,3 +1,5 @@
+#![tactic(auto)]
+
 // The antenna record as 998 words, in the record's field order: for callers that keep it between
 // calls. `put_antenna` writes them (`antenna_words`, specs/Fields.antt), `antenna_in` reads any
 // words (`antenna_in`, specs/Reading.antt).

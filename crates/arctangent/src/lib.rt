@@ -1,3 +1,5 @@
+#![tactic(auto)]
+
 // Document 01's atan on f32, by two halvings of the angle and seven terms of the series, for every float:
 // an equation with a definition of specs/. A NaN for a NaN alone (`atan_domain`); odd (`atan_odd`), both
 // in proofs/Laws.antt.

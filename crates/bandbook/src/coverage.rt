@@ -10,7 +10,7 @@ use crate::Answer;
 use crate::rows::{FROM_KHZ, Row, TO_KHZ, row_at};
 
 // From some kHz up to, not including, `end`: this many rows cover each.
-#[derive(Drop)]
+#[derive(Clone, Copy)]
 pub(crate) struct Stretch {
     pub rows: usize,
     pub end: u32,

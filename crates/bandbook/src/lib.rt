@@ -1,3 +1,5 @@
+#![tactic(auto)]
+
 // Document 02, card 8: the band book, which says which station serves which frequency. A book is a
 // list of words, three a row: low kHz, high kHz (not included) and station id. `book` judges one and
 // `station_for` looks a kHz up in it. Both take any words, and answer what their definitions do
@@ -25,7 +27,7 @@ use crate::rows::{FROM_KHZ, Found, TO_KHZ, first_bad_row};
 
 // The value of an accepted call, 0 for a good book and the station's id at a lookup; or a refusal's
 // number, alone or with its place: the row, or the kHz.
-#[derive(Drop)]
+#[derive(Clone, Copy)]
 pub enum Answer {
     Accepted(u32),
     Refused(u8),

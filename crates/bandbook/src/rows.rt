@@ -12,7 +12,7 @@ pub(crate) const TO_KHZ: u32 = 30000;
 const ROWS: usize = 64;
 
 // From low kHz up to, not including, high kHz: a station's id.
-#[derive(Drop)]
+#[derive(Clone, Copy)]
 pub(crate) struct Row {
     pub low: u32,
     pub high: u32,
@@ -20,7 +20,7 @@ pub(crate) struct Row {
 }
 
 // Where something was found.
-#[derive(Drop)]
+#[derive(Clone, Copy)]
 pub(crate) enum Found {
     At(u32),
     Nowhere,

@@ -1,3 +1,5 @@
+#![tactic(auto)]
+
 // The exercise board of document 02's card 10: stations come on the air and go off, and the board
 // keeps the strongest at each of 360 azimuths. It lies in lent words (`board_air`'s
 // specs/Words.antt), and each call is an equation with a definition of specs/Calls.antt, whatever

@@ -1,3 +1,5 @@
+#![tactic(auto)]
+
 // The air of the exercise board (`board`): who is on, in sixteen places of lent words. Inner steps of
 // the board's calls, over the board's definitions: stations and what is shown of them
 // (specs/Stations.antt), joins and leaves (specs/Runs.antt), words (specs/Words.antt). `accepted` says

@@ -6,7 +6,7 @@ ghost use Rattle.board_kept.specs.Steps.{entry, entry_in, better_of, kept_by, ra
 use numeric::bits::float_of;
 
 // The bits of a number, and the id that has it; id 0 is nobody.
-#[derive(Drop)]
+#[derive(Clone, Copy)]
 pub struct Entry {
     pub bits: u32,
     pub id: u32,

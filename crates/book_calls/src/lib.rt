@@ -1,3 +1,5 @@
+#![tactic(auto)]
+
 // The band book as `service` lends it, its answers as one number. `book` and `station_for` take any
 // words, and answer what `bandbook` answers of them (specs/Book.antt): a value, a refusal's number under
 // kind 3, or its number and place under kind 4.

@@ -11,7 +11,7 @@ use model::table::{PART, ROW};
 const Q1: f32 = 3.1415927 / 180.0;
 
 // One element: half length, current, phase, and its place by type 5 and by type 6.
-#[derive(Drop)]
+#[derive(Clone, Copy)]
 pub struct Element {
     pub rl: f32,
     pub rim: f32,
@@ -21,7 +21,7 @@ pub struct Element {
 }
 
 // The field's sums: vertical (theta) and horizontal (phi), real and imaginary.
-#[derive(Drop)]
+#[derive(Clone, Copy)]
 pub struct Field {
     pub str: f32,
     pub sti: f32,

@@ -1,3 +1,5 @@
+#![tactic(auto)]
+
 // The patterns of the log-periodic antennas, types 5 and 6, at one direction, inner steps of
 // `pattern`: `field_of`, then `both_fields` or `one_field`, are `gain5` and `gain6`
 // (specs/Boom.antt), for every list of active elements that is accepted (`elements_ok`) and every

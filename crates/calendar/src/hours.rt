@@ -3,7 +3,7 @@ ghost use Rattle.std.specs.Prelude.{◌≡◌};
 ghost use Rattle.calendar.specs.Hours.{is_open, hours_refusal};
 ghost use Rattle.calendar.specs.Answers.{hours_told, open_of};
 
-#[derive(Drop)]
+#[derive(Clone, Copy)]
 pub enum HoursAnswer {
     Open,
     Shut,

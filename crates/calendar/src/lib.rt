@@ -1,3 +1,5 @@
+#![tactic(auto)]
+
 // Seasons and service hours, of the years 2000 to 2099 in UTC; it knows nothing of antennas.
 // `seasons::season` tells the season at a time (specs/Seasons.antt, `season_at`) and
 // `seasons::next_change` the next change (`next_change`), or refusal 11 for what is no time of these

@@ -7,14 +7,14 @@ ghost use Rattle.calendar.specs.Answers.{season_told, season_of, next_told, next
 
 use crate::time::{Time, refusal};
 
-#[derive(Drop)]
+#[derive(Clone, Copy)]
 pub enum SeasonAnswer {
     A,
     B,
     Refused(u8),
 }
 
-#[derive(Drop)]
+#[derive(Clone, Copy)]
 pub enum NextAnswer {
     Change(Time),
     Nothing,

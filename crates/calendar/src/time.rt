@@ -4,7 +4,7 @@ ghost use Rattle.calendar.specs.Days.{leap, month_length};
 ghost use Rattle.calendar.specs.Times.{is_date, refusal_of};
 
 // A date and a minute of the day in UTC; January is month 1.
-#[derive(Drop)]
+#[derive(Clone, Copy)]
 pub struct Time {
     pub year: u32,
     pub month: u32,

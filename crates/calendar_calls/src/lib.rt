@@ -1,3 +1,5 @@
+#![tactic(auto)]
+
 // Seasons and service hours as `service` lends them, their answers as one number. `season`, `next_season`
 // and `open` take any words, and answer what `calendar` answers of them (specs/Calendar.antt); the next
 // change is left in four lent words, which a refusal leaves as they were.

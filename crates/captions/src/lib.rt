@@ -1,3 +1,5 @@
+#![tactic(auto)]
+
 // The words beside a plate, as SVG (specs/Words.antt): the antenna's name, MHz and elevation (`head_text`),
 // the four winds (`winds_text`), the peak's dot, number and azimuth with front-to-back (`dot_text`,
 // `foot_text`), what grey and dashes are (`fold_text`, `dashed_text`), a row without a level (`all_floor_text`,
@@ -12,7 +14,7 @@ use labels::{push_reading, push_whole};
 use words::bytes::push_bytes;
 
 // What stands above a plate.
-#[derive(Drop)]
+#[derive(Clone, Copy)]
 pub struct Heading {
     // the type, 1 to 9; any other number is the curtain
     pub antenna: u32,

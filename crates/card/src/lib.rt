@@ -1,3 +1,5 @@
+#![tactic(auto)]
+
 // The reader of a station card, a text of named fields, one a line (crate `fields` has their names and
 // their table). `read` takes any bytes and answers the station or the first mistake, with its line
 // and its field: `read_of` (specs/Reading.antt), over what the lines' words are (specs/Card.antt), the
@@ -31,7 +33,7 @@ use fields::Kind;
 use station::Station;
 use station::fields::blank;
 
-#[derive(Drop)]
+#[derive(Clone, Copy)]
 pub enum Answer {
     Accepted,
     Mistaken(Mistake),
@@ -39,7 +41,7 @@ pub enum Answer {
 }
 
 // The answer; beside it the station with the three numbers after its record, 0 beside a mistake.
-#[derive(Drop)]
+#[derive(Clone, Copy)]
 pub struct Reading {
     pub answer: Answer,
     pub station: Station,

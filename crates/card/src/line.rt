@@ -11,7 +11,7 @@ use fields::table::{has_field, is_maximum_gain, mode_of};
 use lines::{line_end, text_start, word, word_count};
 
 // A line of a text: its number, from 1, and where it stands. Line 0 is none, and has nothing in it.
-#[derive(Drop)]
+#[derive(Clone, Copy)]
 pub(crate) struct Line {
     pub number: usize,
     pub from: usize,
@@ -19,7 +19,7 @@ pub(crate) struct Line {
 }
 
 // What a line is to begin with: the field's name, or that of a maximum gain which this type has.
-#[derive(Drop)]
+#[derive(Clone, Copy)]
 pub(crate) enum Sought {
     Field(usize),
     MaximumGain(usize),

@@ -2,7 +2,7 @@
 ghost use Rattle.std.specs.Prelude.{◌≡◌};
 ghost use Rattle.card.specs.Mistake.{is_fault, is_mistake, good, mistake};
 
-#[derive(Drop)]
+#[derive(Clone, Copy)]
 pub enum Fault {
     Nothing,
     // The line's first word names no field.
@@ -22,7 +22,7 @@ pub enum Fault {
 
 // What is wrong; the line, from 1; the field's number, 0 for none; which of the line's numbers it is,
 // from 1, 0 for none of them.
-#[derive(Drop)]
+#[derive(Clone, Copy)]
 pub struct Mistake {
     pub what: Fault,
     pub line: usize,

@@ -1,3 +1,5 @@
+#![tactic(auto)]
+
 // A station written back as a card. `card_of` takes any bytes and writes the card (specs/Text.antt) of
 // a station's 237: a line for each field of its kind, each number in the fewest decimals that are read
 // back (crate `typed`). The text is read by crate `card` before it is answered, and answered only where
@@ -19,7 +21,7 @@ use words::big_endian::float_at;
 use words::bytes::push_bytes;
 
 // The card's length, or the number of the refusal.
-#[derive(Drop)]
+#[derive(Clone, Copy)]
 pub enum Back {
     Written(usize),
     Refused(u8),

@@ -1,3 +1,5 @@
+#![tactic(auto)]
+
 // The calls of cards as `service` lends them to Rust and C callers, on numbers and slices. Each takes any
 // bytes, and its answer with what it leaves in the lent slices is one equation with its definition
 // (specs/Calls.antt): `read_card`, the station of a card or its first mistake as six words; `tell_card`,

@@ -1,3 +1,5 @@
+#![tactic(auto)]
+
 // The program `card_station`: a card's text on standard input, the 237 bytes of its station on standard
 // output (`card::station`), or nothing. The sentence of the card's mistake, or of a remark on it, goes to
 // standard error (`card_text::sentence`). No contract can say what is read or written, so `tests/card`

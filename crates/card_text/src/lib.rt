@@ -1,3 +1,5 @@
+#![tactic(auto)]
+
 // The sentence of a card's first mistake, or of a remark: its line, its field, and what is wrong with
 // which word. `sentence` takes any text and writes `sentence_of` (specs/Sentences.antt), which has the
 // words of each mistake that crate `card` finds; specs/Faults.antt and specs/Limits.antt of
@@ -17,7 +19,7 @@ use words::bytes::push;
 
 // The length of the sentence that was written, 0 for a good card without a remark; or the number of
 // the refusal.
-#[derive(Drop)]
+#[derive(Clone, Copy)]
 pub enum Written {
     Length(usize),
     Refused(u8),

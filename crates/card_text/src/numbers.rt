@@ -12,7 +12,7 @@ use card_words::pieces::capped;
 use fields::Kind;
 
 // A fault's number, the earlier line that it names and the refusal that it breaks; 0 for none.
-#[derive(Drop)]
+#[derive(Clone, Copy)]
 struct What {
     number: u32,
     earlier: usize,

@@ -32,3 +32,5 @@
 // an antenna that set-up accepted, z6 is the greatest of 0 and the gains read in the elevation pass
 // and the last azimuth pass; there the gain's number lies between -30 and the larger of -30 and the
 // maximum gain; and without slew, outside type 4, the elevation is the last that has the peak.
+
+#![tactic(auto)]

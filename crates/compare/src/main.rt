@@ -1,3 +1,5 @@
+#![tactic(auto)]
+
 // The program `compare`: all of standard input in, two bytes of the base's azimuth and the 237 of each of
 // two masts, its text out. `compare_text::output` says what the text is; no contract can say what is read
 // or written. Where the input can't be read there is no text, and a line on standard error. The stored

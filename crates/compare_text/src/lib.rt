@@ -1,3 +1,5 @@
+#![tactic(auto)]
+
 // Two masts compared in words, on slices: from the 237 bytes of each, as `plate` reads them, and the
 // azimuth of the base to the program's whole output, for any bytes. The text is `compare_in`
 // (specs/Compare.antt): which mast leads at the base, how wide each beam is, what lies behind, in how

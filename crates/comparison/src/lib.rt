@@ -1,3 +1,5 @@
+#![tactic(auto)]
+
 // Two rows compared in words, each its 360 numbers, raised hundredths, and its kinds: which mast leads at
 // the base, how wide each beam is, what lies behind, in how many azimuths each leads (`lines_of`,
 // specs/Lines.antt; what is read off a row: `mast_of`, specs/Masts.antt).

@@ -6,14 +6,14 @@ use dial::peak_azimuth;
 use figures::{beam, behind};
 
 // A gain: 0 a level, 1 a floor, 2 a silence; raised hundredths.
-#[derive(Drop)]
+#[derive(Clone, Copy)]
 pub struct Reading {
     pub kind: u8,
     pub number: u32,
 }
 
 // What a buyer asks of one mast.
-#[derive(Drop)]
+#[derive(Clone, Copy)]
 pub struct Mast {
     // its letter
     pub name: u8,

@@ -1,3 +1,5 @@
+#![tactic(auto)]
+
 // Whole coordinates on a plate: the point at an azimuth and a distance from the centre, `point_of`
 // (specs/Compass.antt), by document 01's whole-number sine of whole degrees. North is up and azimuths
 // go clockwise, on a square of 8,000 whose centre is 4,000 from every side. The points of the four
@@ -7,7 +9,7 @@
 ghost use Rattle.std.specs.Prelude.{◌≡◌, ◌≤◌};
 ghost use Rattle.compass.specs.Compass.{folded_of, sine_size, part_of, rises_at, x_of, y_of, point_of};
 
-#[derive(Drop)]
+#[derive(Clone, Copy)]
 pub struct Point {
     pub x: u32,
     pub y: u32,

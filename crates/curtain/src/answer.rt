@@ -2,7 +2,7 @@
 ghost use Rattle.std.specs.Prelude.{◌≡◌};
 ghost use Rattle.curtain.specs.Answers as Answers;
 
-#[derive(Drop)]
+#[derive(Clone, Copy)]
 pub enum Gain {
     Level(f32),
     Refused(u8),

@@ -12,7 +12,7 @@ use numeric::float::is_finite;
 use words::patterns::copy_part;
 
 // The readings of the pattern that were taken, or the number of a refusal.
-#[derive(Drop)]
+#[derive(Clone, Copy)]
 pub enum Answer {
     Readings(u32),
     Refused(u8),
@@ -30,7 +30,7 @@ fn pair(parm: [f32; 20], factor: f32, azimd: f32, elevd: f32) -> Gain
 
 // The levels of the pairs, kept here until all exist; the number that the first refused pair has, 0
 // where there is none.
-#[derive(Drop)]
+#[derive(Clone, Copy)]
 struct Found {
     number: u8,
     levels: [f32; 64],

@@ -1,3 +1,5 @@
+#![tactic(auto)]
+
 // The NTIA curtain, the source's module `curtain`. `gain` answers any twenty parameters, direction
 // and factor: with the source's level, or with the lowest number that document 01 refuses them for
 // (specs/Answers.antt, `curtain_gain`). A curtain whose rounded slew is -3 to 3, which is where its

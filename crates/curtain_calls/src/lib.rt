@@ -1,3 +1,5 @@
+#![tactic(auto)]
+
 // The curtain as `service` lends it, its answers as one number. `gain`, `factor` and `levels` take any
 // floats, and answer what `curtain` answers of them (specs/Curtain.antt): bits, a count, or a refusal's
 // number under kind 3; the levels are left in lent floats, which a refusal leaves as they were.

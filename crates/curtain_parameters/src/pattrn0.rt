@@ -11,7 +11,7 @@ use floats::rounding::nint;
 
 // Lengths in radians of the operating wave: of the lowest stack's height, the bays' spacing, the
 // dipoles, the screen's distance and the stacks' spacing.
-#[derive(Drop)]
+#[derive(Clone, Copy)]
 pub(crate) struct Lengths {
     pub xh: f32,
     pub xb: f32,
@@ -54,7 +54,7 @@ pub(crate) fn lengths_of(parm: [f32; 20]) -> Lengths
 }
 
 // The stacks' ratios and heights.
-#[derive(Drop)]
+#[derive(Clone, Copy)]
 pub(crate) struct Stacks {
     pub c: [f32; 8],
     pub z: [f32; 8],
@@ -77,7 +77,7 @@ fn stacks_of(mode: usize, l: Lengths, nostak: usize) -> Stacks
 }
 
 // The bays' phases, ratios and places.
-#[derive(Drop)]
+#[derive(Clone, Copy)]
 pub(crate) struct Bays {
     pub ps: [f32; 14],
     pub r: [f32; 14],

@@ -7,7 +7,7 @@ use crate::constants::D2R;
 use crate::pattern::{Curtain, elevation_at, f2, f2_at};
 
 // A number, and how many readings of the pattern it took.
-#[derive(Drop)]
+#[derive(Clone, Copy)]
 pub struct Read {
     pub value: f32,
     pub readings: u32,

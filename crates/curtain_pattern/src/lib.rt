@@ -1,3 +1,5 @@
+#![tactic(auto)]
+
 // The NTIA curtain's power pattern, inner steps of `curtain`: `pattern` at one direction, with what
 // its stacks, bays and dipoles give (specs/Pattern.antt, `f2`), the azimuth taken to the front
 // (specs/Azimuth.antt, `folded`), and the pattern integrated over the forward hemisphere

@@ -8,7 +8,7 @@ ghost use Rattle.curtain_pattern.specs.PatternSteps as Steps;
 use numeric::bits::bits_of;
 
 // `/ANTDAT/` and `/FWAVE/`: what the pattern is computed from.
-#[derive(Drop)]
+#[derive(Clone, Copy)]
 pub struct Curtain {
     pub nostak: usize,
     pub eil: f32,
@@ -98,7 +98,7 @@ pub fn stack_power(fz: f32, stheta: f32, sphi: f32, cphi: f32) -> f32
 
 // What the pattern takes from the elevation alone: its cosine and sine, and the sum over the stacks.
 // The integral has it once for each sweep of the azimuth.
-#[derive(Drop)]
+#[derive(Clone, Copy)]
 pub struct Elevation {
     pub ctheta: f32,
     pub stheta: f32,

@@ -1,3 +1,5 @@
+#![tactic(auto)]
+
 // The curve of a plate as SVG paths (`curve_text`, specs/Curve.antt): one stroke for the levels, one for
 // those that are folded over where that is shown apart, one for the floors. Each azimuth is drawn by one
 // stroke at most (`one_stroke`, proofs/Laws.antt); whether any is a floor says `has_floor`.

@@ -1,3 +1,5 @@
+#![tactic(auto)]
+
 // The program `dbi` on slices: from the 237 bytes that `plate` reads to lines that people read, for any
 // bytes. The text is `text_in` (specs/Dbi.antt): the line of the first refusal, or 360 lines, which are
 // those of the plate that crate `shown` shows.

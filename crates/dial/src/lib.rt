@@ -1,3 +1,5 @@
+#![tactic(auto)]
+
 // The dial of a plate: the peak of a row (`peak_azimuth`; no number is above it, and those before it
 // are below: `peak-greatest`, `peak-first`), rings every 10 dB from a bottom to a top ring (`bottom_of`,
 // `top_of`; no gain of the row is above the top: `top_above`), and how far from the centre a gain lies

@@ -7,7 +7,7 @@ ghost use Rattle.directions.specs.Azimuth.{back180, in_first, in_second, in_thir
 use model::record::Direction;
 
 // Where the azimuth's sine and cosine stand in the tables, and whether each is negated.
-#[derive(Drop)]
+#[derive(Clone, Copy)]
 pub struct Quadrant {
     pub jv: usize,
     pub an: bool,

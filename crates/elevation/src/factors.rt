@@ -8,7 +8,7 @@ use model::record::{Constants, Factors};
 use model::types::{array_type, crossed_type};
 
 // The summed cosines, w1, and sines, w2, of a stack of dipoles over ground.
-#[derive(Drop)]
+#[derive(Clone, Copy)]
 pub struct Stack {
     pub w1: f32,
     pub w2: f32,

@@ -3,7 +3,7 @@ ghost use Rattle.std.specs.Prelude.{◌≡◌};
 ghost use Rattle.elevation.specs.Reflection.{ref_cof};
 
 // The reflection coefficients: vertical then horizontal, real and imaginary.
-#[derive(Drop)]
+#[derive(Clone, Copy)]
 pub struct Reflection {
     pub t1: f32,
     pub t2: f32,

@@ -1,3 +1,5 @@
+#![tactic(auto)]
+
 // The fields of a station card: what people call them, who has them, where their numbers go. A card's
 // kind is its type and its mode. A field's number is its place in the list of names (`name_of`,
 // specs/Names.antt); the table (specs/Table.antt) says which kinds have it, how many numbers it has
@@ -10,7 +12,7 @@ pub mod names;
 pub mod table;
 
 // The type, 1 to 9 or `CURTAIN`, 0 where it isn't known; and the mode, by the maximum gain.
-#[derive(Drop)]
+#[derive(Clone, Copy)]
 pub struct Kind {
     pub iant: usize,
     pub mode: u8,

@@ -10,7 +10,7 @@ use crate::names::{
 use crate::{CURTAIN, Kind};
 
 // A field of the types `from` to `to`: it has `count` numbers, for the places from `first` on.
-#[derive(Drop)]
+#[derive(Clone, Copy)]
 struct Row {
     field: usize,
     from: usize,
@@ -20,7 +20,7 @@ struct Row {
 }
 
 // The number of a place: which field's, and which of them, from 1. No field is 0.
-#[derive(Drop)]
+#[derive(Clone, Copy)]
 pub struct Source {
     pub field: usize,
     pub number: usize,

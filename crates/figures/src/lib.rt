@@ -1,3 +1,5 @@
+#![tactic(auto)]
+
 // What a buyer asks of a row, and of two: where the greatest number behind is (`behind_of`, from 90 to
 // 270; `behind-greatest`, `behind-first`), how far it lies below the front (`front_to_back`), how wide the
 // beam is at 3 dB (`beam_of`; at most 360: `beam_most`), and in how many azimuths one row leads another

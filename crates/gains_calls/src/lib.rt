@@ -1,3 +1,5 @@
+#![tactic(auto)]
+
 // Gains at many directions, set up once, as `service` lends them. `gains` takes any floats, and leaves in
 // lent words what set-up's search found and `ccirgain` at each direction, two words a pair
 // (specs/Gains.antt); a refusal leaves the words as they were.
@@ -20,7 +22,7 @@ use numeric::bits::bits_of;
 use packed::arrays::parm_at;
 
 // A gain in two words.
-#[derive(Drop)]
+#[derive(Clone, Copy)]
 struct GainPair {
     kind: u32,
     word: u32,

@@ -1,3 +1,5 @@
+#![tactic(auto)]
+
 // What stands beside a plate: from the 237 bytes that `plate` reads to the antenna, its MHz, the
 // elevation, and whether half of the plate is the other half's mirror image; or the first refusal, for
 // any bytes. The answer is `heading_of` (specs/Heading.antt). Set-up isn't asked: its refusals are the
@@ -18,7 +20,7 @@ use words::big_endian::float_at;
 
 // The type, 1 to 9, or 0 for the curtain; MHz in raised hundredths (crate `hundredths`); the elevation
 // in degrees; whether the gains beyond 180 degrees are those before it, mirrored.
-#[derive(Drop)]
+#[derive(Clone, Copy)]
 pub struct Heading {
     pub antenna: u32,
     pub mhz: u32,
@@ -27,7 +29,7 @@ pub struct Heading {
 }
 
 // The answer: a heading, or the number of the refusal.
-#[derive(Drop)]
+#[derive(Clone, Copy)]
 pub enum Answer {
     Told(Heading),
     Refused(u8),

@@ -1,3 +1,5 @@
+#![tactic(auto)]
+
 // Numbers in hundredths (document 02, card 14). A float's exact value becomes whole hundredths, the
 // nearest, halves away from zero (`hundredths_of`, specs/Hundredths.antt), and hundredths are written
 // with two decimals, zero without a sign (`two_decimals`, specs/Decimals.antt). What is known of both

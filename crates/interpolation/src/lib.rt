@@ -1,3 +1,5 @@
+#![tactic(auto)]
+
 // The maximum gain between the gains that an antenna file lists: per MHz, or by frequency ratio. Inner
 // steps of `setmaxgain`, which keeps what `gainterb` asks, a frequency in the band.
 ghost use Rattle.std.specs.Prelude.{◌≡◌, ◌<◌, ◌≤◌, true};

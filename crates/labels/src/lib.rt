@@ -1,3 +1,5 @@
+#![tactic(auto)]
+
 // Numbers after their words, as pictures have them: whole ones (`whole`), hundredths with two decimals
 // (`reading`), and whole dBi (`dbi`; specs/Writing.antt). `Put` says what was written and in how many
 // bytes at most, so that a caller knows its room; what is put next to each other is put at once

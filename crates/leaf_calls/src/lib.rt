@@ -1,3 +1,5 @@
+#![tactic(auto)]
+
 // The elementary functions as `service` lends them: by number, bits in and bits out. `by_number` takes
 // any three words, and its answer is `leaf_of` (specs/Leaf.antt): document 01's sin, cos, ln, log10, powf,
 // atan and sqrt are the numbers 0 to 6, and any other number answers a NaN.

@@ -8,7 +8,7 @@ ghost use Rattle.levels.specs.Shown.{greater, lesser};
 
 use numeric::bits::float_of;
 
-#[derive(Drop)]
+#[derive(Clone, Copy)]
 pub(crate) struct Extremes {
     pub(crate) greatest: f32,
     pub(crate) least: f32,

@@ -1,3 +1,5 @@
+#![tactic(auto)]
+
 // Document 02, card 13, the last sixty-four field strengths: the greatest, the least and how many of
 // the last 64 levels of a run, or of all while there are fewer, kept in 66 lent words. Both calls
 // are equations with specs/Answers.antt, for every state and level.
@@ -19,7 +21,7 @@ use display::shown;
 use state::{left_by_a_run, receive, refusal};
 
 // What the trainer's screen shows, or the refusal's number.
-#[derive(Drop)]
+#[derive(Clone, Copy)]
 pub enum Screen {
     // No level was received.
     Nothing,

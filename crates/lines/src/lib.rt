@@ -1,3 +1,5 @@
+#![tactic(auto)]
+
 // Text that people type, by lines and words. A text starts after its byte-order mark, if it has one
 // (`start_of`); a line ends at a line feed or at the text's end (`lines_of`, specs/Lines.antt); a
 // line's words are what stands between blanks before a remark (`words_of`, specs/Words.antt). Every
@@ -19,7 +21,7 @@ ghost use Rattle.lines.specs.Alike.{alike};
 use crate::run::{Stop, run_end};
 
 // The bytes from one index up to another.
-#[derive(Drop)]
+#[derive(Clone, Copy)]
 pub struct Span {
     pub from: usize,
     pub to: usize,

@@ -5,7 +5,7 @@ ghost use Rattle.lines.specs.Words.{is_blank};
 ghost use Rattle.lines.specs.Inner.{stops_at};
 
 // What a run ends at. `Filled` is a byte that isn't blank.
-#[derive(Drop)]
+#[derive(Clone, Copy)]
 pub(crate) enum Stop {
     LineFeed,
     Remark,

@@ -1,3 +1,5 @@
+#![tactic(auto)]
+
 // Document 01's logarithms on f32: the binary one by repeated squaring, and log10 and ln from it, rounded
 // once. log10 and ln take every float, a NaN too, and are equations with definitions of specs/. Proved of
 // the definitions (proofs/Laws.antt): positive finite numbers, subnormal ones too, else a NaN

@@ -7,28 +7,28 @@ use crate::current::{Band, Curves, current_of, phase_of};
 use floats::range::is_between;
 
 // The numbers of the nat active elements, at 1 to nat.
-#[derive(Drop)]
+#[derive(Clone, Copy)]
 pub struct Active {
     pub iek: [usize; 36],
     pub nat: usize,
 }
 
 // Currents and phases by the elements' lengths.
-#[derive(Drop)]
+#[derive(Clone, Copy)]
 pub struct Excited {
     pub ria: [f32; 31],
     pub fi: [f32; 36],
 }
 
 // Phases and currents, taken by the largest current.
-#[derive(Drop)]
+#[derive(Clone, Copy)]
 pub struct Feed {
     pub fi: [f32; 36],
     pub rim: [f32; 36],
 }
 
 // The largest current, and the phase there.
-#[derive(Drop)]
+#[derive(Clone, Copy)]
 pub struct Loudest {
     pub riamax: f32,
     pub fimin: f32,

@@ -6,7 +6,7 @@ ghost use Rattle.logperiodic.specs.Current.{parabol_of, vertexed, half_way, thre
 use floats::range::{is_between, is_from_to};
 
 // y = aa x^2 + bb x + cc.
-#[derive(Drop)]
+#[derive(Clone, Copy)]
 pub struct Parabola {
     pub aa: f32,
     pub bb: f32,
@@ -15,7 +15,7 @@ pub struct Parabola {
 
 // The lengths between which an element is active, from the shortest to the longest: rl0 has the
 // largest current, and rlc is the resonant length.
-#[derive(Drop)]
+#[derive(Clone, Copy)]
 pub struct Band {
     pub rllow: f32,
     pub rl0: f32,
@@ -24,7 +24,7 @@ pub struct Band {
 }
 
 // The current over the length: the source's segments 0 to 4, from the shortest lengths up.
-#[derive(Drop)]
+#[derive(Clone, Copy)]
 pub struct Curves {
     pub foot: Parabola,
     pub rise: Parabola,

@@ -5,7 +5,7 @@ ghost use Rattle.logperiodic.specs.Geometry.{boom, taper, lengths, spacing, alon
 
 // The design: lengths and heights of the longest element, nel, and of the shortest, the distance
 // between them, and the feeder's impedance.
-#[derive(Drop)]
+#[derive(Clone, Copy)]
 pub struct Design {
     pub rlnel: f32,
     pub rl1: f32,
@@ -16,14 +16,14 @@ pub struct Design {
 }
 
 // The boom's direction.
-#[derive(Drop)]
+#[derive(Clone, Copy)]
 pub struct Boom {
     pub sinth: f32,
     pub costh: f32,
 }
 
 // The angles of a vertical antenna at its apex, with the spacing and height factors that follow.
-#[derive(Drop)]
+#[derive(Clone, Copy)]
 pub struct Apex {
     pub tg23: f32,
     pub tg3: f32,
@@ -32,7 +32,7 @@ pub struct Apex {
 }
 
 // Lengths, places along and across, heights; and the spacing factor.
-#[derive(Drop)]
+#[derive(Clone, Copy)]
 pub struct Layout {
     pub rl: [f32; 36],
     pub x: [f32; 36],

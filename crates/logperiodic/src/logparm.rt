@@ -10,7 +10,7 @@ use crate::geometry::{Boom, Design, Layout, boom_of, layout_of, taper_of};
 use model::record::Elements;
 
 // The elements, and the boom's direction.
-#[derive(Drop)]
+#[derive(Clone, Copy)]
 pub struct LogPeriodic {
     pub elements: Elements,
     pub boom: Boom,

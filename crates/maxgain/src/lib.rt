@@ -1,3 +1,5 @@
+#![tactic(auto)]
+
 // The maximum gain of an antenna at a frequency, and the parameters that it is set up with.
 // `maximum::setmaxgain` answers any inputs: with the source's gain and the twenty parameters, their
 // slots changed, or with the lowest number that document 01 refuses them for and the parameters as

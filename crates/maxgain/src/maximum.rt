@@ -11,28 +11,28 @@ use interpolation::{gainterb, gainterp};
 use model::types::jant;
 
 // A maximum gain in dBi, or the number of a refusal.
-#[derive(Drop)]
+#[derive(Clone, Copy)]
 pub enum Answer {
     Gain(f32),
     Refused(u8),
 }
 
 // The answer with the twenty parameters, which a refusal leaves as they were.
-#[derive(Drop)]
+#[derive(Clone, Copy)]
 pub struct Maximum {
     pub answer: Answer,
     pub parm: [f32; 20],
 }
 
 // A gain before it is known to be finite, with the parameters that go with it.
-#[derive(Drop)]
+#[derive(Clone, Copy)]
 pub struct Found {
     pub gain: f32,
     pub parm: [f32; 20],
 }
 
 // The operating and the design frequency in MHz.
-#[derive(Drop)]
+#[derive(Clone, Copy)]
 pub struct Tuning {
     pub foper: f32,
     pub fdesign: f32,

@@ -1,3 +1,5 @@
+#![tactic(auto)]
+
 // Document 02, card 2: what `setmaxgain` would write, shown before it does. The parameters are read
 // only. `preview` answers any inputs: the gain, and slots 4, 5 and 7 as written or kept
 // (specs/Preview.antt, `preview_of`). `preview_law` (specs/PreviewLaw.antt): it is what the call does on
@@ -9,14 +11,14 @@ use maxgain::maximum::setmaxgain;
 use model::types::jant;
 
 // A slot as the call leaves it, and whether the call writes it, if only with the same bits.
-#[derive(Drop)]
+#[derive(Clone, Copy)]
 pub struct Slot {
     pub written: bool,
     pub value: f32,
 }
 
 // The maximum gain, and the slots that some mode writes.
-#[derive(Drop)]
+#[derive(Clone, Copy)]
 pub struct Shown {
     pub gain: f32,
     pub slot4: Slot,
@@ -25,7 +27,7 @@ pub struct Shown {
 }
 
 // What the call would do, or the number that it would refuse under.
-#[derive(Drop)]
+#[derive(Clone, Copy)]
 pub enum Answer {
     Accepted(Shown),
     Refused(u8),

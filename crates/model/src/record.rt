@@ -3,7 +3,7 @@
 // What `antinit2` sets: wave and ground for every type (`/general/`), the type's own numbers
 // (`/cros/`), the direction of a boom or of a rhombic's legs (`/surf/`). A field is 0 for the types
 // that its comment doesn't name.
-#[derive(Drop)]
+#[derive(Clone, Copy)]
 pub struct Constants {
     // the ground's complex permittivity, relative: the imaginary part, 18000 times the conductivity
     // in siemens a metre over the MHz
@@ -44,7 +44,7 @@ pub struct Constants {
 
 // `/logp/`: the elements of types 5 and 6, at 1 to 30; element 1 is the shortest. All others have
 // 0 everywhere.
-#[derive(Drop)]
+#[derive(Clone, Copy)]
 pub struct Elements {
     // phase of the current, in degrees from that of the largest
     pub fi: [f32; 36],
@@ -64,7 +64,7 @@ pub struct Elements {
 }
 
 // `/trig/`: the sines, a, and cosines, b, of the whole degrees 0 to 90, with the source's own ends.
-#[derive(Drop)]
+#[derive(Clone, Copy)]
 pub struct Trig {
     pub a: [f32; 91],
     pub b: [f32; 91],
@@ -72,7 +72,7 @@ pub struct Trig {
 
 // `/warr/`: dipoles with their images in the ground, for each whole degree of elevation (types 1
 // to 4, 8 and 9); the bare reflection coefficients in w3 to w6 (type 7).
-#[derive(Drop)]
+#[derive(Clone, Copy)]
 pub struct Ground {
     // the vertical field, real and imaginary
     pub w3: [f32; 91],
@@ -87,7 +87,7 @@ pub struct Ground {
 
 // All that the relative gain reads, but for the lent table: the type, whether the truncated slew
 // is not 0, and the constants and tables.
-#[derive(Drop)]
+#[derive(Clone, Copy)]
 pub struct Model {
     pub iant: u32,
     pub slewed: bool,
@@ -98,7 +98,7 @@ pub struct Model {
 }
 
 // A direction: sine and cosine of the elevation, a0 and b0, and of the azimuth, a1 and b1.
-#[derive(Drop)]
+#[derive(Clone, Copy)]
 pub struct Direction {
     pub a0: f32,
     pub b0: f32,
@@ -107,7 +107,7 @@ pub struct Direction {
 }
 
 // `Ground` at one elevation.
-#[derive(Drop)]
+#[derive(Clone, Copy)]
 pub struct Factors {
     pub w3: f32,
     pub w4: f32,
@@ -119,7 +119,7 @@ pub struct Factors {
 
 // `/wwar/`: one log-periodic element with its image in the ground, at one elevation: the vertical
 // field, ww1 and ww2, and type 5's horizontal one, ww3 and ww4.
-#[derive(Drop)]
+#[derive(Clone, Copy)]
 pub struct Entry {
     pub ww1: f32,
     pub ww2: f32,

@@ -1,3 +1,5 @@
+#![tactic(auto)]
+
 // Whole numbers as people write them: `numeral` (specs/Numeral.antt), decimal digits with no leading
 // zero. What is written reads back as the number (`IsNumeral-reads`), in at most ten digits
 // (`numeral-length`; proofs/Laws.antt).

@@ -1,3 +1,5 @@
+#![tactic(auto)]
+
 // What the calls for Rust and C callers share. An answer that is one number of 64 bits has a kind in the
 // upper half and a value in the lower (specs/Packed.antt); a word is read as a mode, and twenty, six or
 // thirty floats of a slice are taken as arrays of their own, each equal to its definition

@@ -1,3 +1,5 @@
+#![tactic(auto)]
+
 // Two masts on one plate: SVG text of two rows in hundredths, with a legend and a table. The first mast is
 // thin and black over the second's broad grey, on the scale of the greater peak, which holds both
 // (`first-within`, `second-within`, proofs/Laws.antt). The text is `pair_in` (specs/Pair.antt), for any

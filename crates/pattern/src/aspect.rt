@@ -19,7 +19,7 @@ use rhombic_crossed::crossed::gain_89;
 use rhombic_crossed::rhombic::gain_7;
 
 // What a pattern reads of one elevation.
-#[derive(Drop)]
+#[derive(Clone, Copy)]
 pub struct Aspect {
     pub iant: u32,
     pub k: Constants,

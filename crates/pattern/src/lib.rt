@@ -1,3 +1,5 @@
+#![tactic(auto)]
+
 // The relative gain of antenna types 1 to 9 at one direction, an inner step of search and gain:
 // `gainrel` is `gain_rel`, for every record whose counts are accepted (`counts_ok`), every table of
 // at least `table_size` floats, every elevation and azimuth. Theorems on it: `gain_rel-mirror` (the

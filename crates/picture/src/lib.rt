@@ -1,3 +1,5 @@
+#![tactic(auto)]
+
 // A plate as a picture: SVG text of a row in hundredths, 800 wide and high, north up, black on white. It
 // has rings every 10 dB (crate `rings`), the curve with its floors apart (`curve`), and the words beside
 // it (`captions`); a silence is an empty plate with the word, a refusal its sentence. The text is

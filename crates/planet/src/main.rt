@@ -1,3 +1,5 @@
+#![tactic(auto)]
+
 // The program `planet`: all of standard input in, its text out. `planet_text::output::planet_output`
 // says what the text is; no contract can say what is read or written, so `tests/planet` tries that.
 // Where the input can't be read there is no text, and a line on standard error.

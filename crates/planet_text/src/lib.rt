@@ -1,3 +1,5 @@
+#![tactic(auto)]
+
 // Planet pattern text for the coverage planners (document 02, card 14): from the 237 bytes that
 // `plate` reads to the text, for any bytes. The answer is `planet_of`, and the lent text afterwards
 // `text_after` (specs/Planet.antt); `output` has the program's output, `output_in`.
@@ -18,7 +20,7 @@ use request::{Request, prepare};
 use words::bytes::push_bytes;
 
 // The length of the text that was written, or the number of the refusal.
-#[derive(Drop)]
+#[derive(Clone, Copy)]
 pub enum Answer {
     Written(usize),
     Refused(u8),

@@ -8,14 +8,14 @@ use antenna::gain::{Gain, gain_told};
 use request::Request;
 
 // A gain's number, or the number of its refusal.
-#[derive(Drop)]
+#[derive(Clone, Copy)]
 enum Number {
     Level(f32),
     NoLevel(u8),
 }
 
 // All numbers are there, or the number of the first refusal.
-#[derive(Drop)]
+#[derive(Clone, Copy)]
 pub enum Vertical {
     Filled,
     Refused(u8),

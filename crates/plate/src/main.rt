@@ -1,3 +1,5 @@
+#![tactic(auto)]
+
 // The program `plate`: all of standard input in, its text out. `plate_text::plate` says what the
 // text is; no contract can say what is read or written, so `tests/plate` tries that. Where the input
 // can't be read there is no text, and a line on standard error. The stored run is document 01's

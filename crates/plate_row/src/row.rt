@@ -22,7 +22,7 @@ use pattern::gainrel::gainrel;
 use pattern::passes::around;
 
 // The entry at azimuth 0 less the greatest of those at 90 to 270, or the number of a refusal.
-#[derive(Drop)]
+#[derive(Clone, Copy)]
 pub enum PlateRow {
     FrontToBack(f32),
     Refused(u8),

@@ -1,3 +1,5 @@
+#![tactic(auto)]
+
 // The program `plate` on slices: from its whole input to its whole output, for any bytes. The text is
 // `text_in` (specs/Plate.antt): the line of the first refusal, or 360 lines, which are those of
 // `ccirgain`'s own answers (`lines_are_gains`).

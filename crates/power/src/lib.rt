@@ -1,3 +1,5 @@
+#![tactic(auto)]
+
 // Document 01's powf on f32, by the binary logarithm and the exponential series, for every two floats: an
 // equation with a definition of specs/. A positive normal base and 0 < y <= 1, else a NaN (`powf_domain`,
 // proofs/Laws.antt).

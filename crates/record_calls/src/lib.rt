@@ -1,3 +1,5 @@
+#![tactic(auto)]
+
 // The station record as `service` lends it, bytes on one side and 57 words on the other: the mode, then
 // the floats' bits. `read` and `write` take any bytes and words, and answer what `station` answers of them
 // (specs/Record.antt); a refusal leaves the lent words or bytes as they were.

@@ -1,3 +1,5 @@
+#![tactic(auto)]
+
 // Remarks on a plate, for people: from the 237 bytes that `plate` reads to a line for each thing that
 // its reader could take for another, for any bytes. The text is `remarks_of` (specs/Remarks.antt): that
 // all 360 directions are a floor because MHz is off the design band, and how many directions are at the

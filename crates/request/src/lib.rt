@@ -1,3 +1,5 @@
+#![tactic(auto)]
+
 // From a program's input to an antenna that is ready for gain, or the first refusal on the way: the
 // reader, `setmaxgain` and set-up in turn. Any bytes may be given, and any table lent. The answer is
 // `request_of` and the lent table afterwards `table_after` (specs/Request.antt); a refusal leaves the
@@ -16,7 +18,7 @@ use words::big_endian::float_at;
 
 // The antenna, the parameters as set-up got them, the maximum gain in dBi, and the elevation that
 // the input asks for, which no step here looks at.
-#[derive(Drop)]
+#[derive(Clone, Copy)]
 pub struct Request {
     pub antenna: Antenna,
     pub parm: [f32; 20],
@@ -25,14 +27,14 @@ pub struct Request {
 }
 
 // The answer: ready, or the number of the refusal.
-#[derive(Drop)]
+#[derive(Clone, Copy)]
 pub enum Answer {
     Ready,
     Refused(u8),
 }
 
 // The answer with the request beside it, which says nothing beside a refusal: an enum holds no arrays.
-#[derive(Drop)]
+#[derive(Clone, Copy)]
 pub struct Prepared {
     pub answer: Answer,
     pub request: Request,

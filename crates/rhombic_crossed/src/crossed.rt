@@ -7,7 +7,7 @@ use crate::complex::Complex;
 use model::record::{Constants, Direction, Factors};
 
 // Two crossed dipoles at one direction: the azimuth from each, and each one's factor.
-#[derive(Drop)]
+#[derive(Clone, Copy)]
 pub struct Crossed {
     pub aa1: f32,
     pub bb1: f32,

@@ -7,7 +7,7 @@ use crate::complex::Complex;
 use model::record::{Constants, Direction, Factors};
 
 // The rhombus's legs at one direction.
-#[derive(Drop)]
+#[derive(Clone, Copy)]
 pub struct Legs {
     pub t5: f32,
     pub t6: f32,

@@ -1,3 +1,5 @@
+#![tactic(auto)]
+
 // The rings of a plate, every 10 dB from its bottom to its top, and the axes: `scale_text`; and the gain of
 // each ring in dBi: `labels_text` (specs/Rings.antt), as SVG. Labels are drawn after the curve, on a white
 // rim of their own, on the side of their rings that it leaves free (`within`).

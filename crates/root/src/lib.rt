@@ -1,3 +1,5 @@
+#![tactic(auto)]
+
 // Square roots: of a whole number, cut to a whole number, and of an f32, as IEEE 754's squareRoot. Each is
 // an equation with a definition of specs/, for every number and every float; of the definition it is
 // proved that it is IEEE 754's squareRoot (`sqrt_is`) and that nothing else is (`sqrt_only`), in

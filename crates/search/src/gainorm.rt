@@ -13,7 +13,7 @@ use pattern::aspect::{aspect_at, reading};
 use pattern::passes::up;
 
 // The readings so far, and whether each of them was finite.
-#[derive(Drop)]
+#[derive(Clone, Copy)]
 pub struct Tally {
     pub readings: u64,
     pub sound: bool,
@@ -21,7 +21,7 @@ pub struct Tally {
 
 // A pass over azimuths under way: the largest gain, its azimuth, how many readings have equalled
 // it, and the azimuth v to read next.
-#[derive(Drop)]
+#[derive(Clone, Copy)]
 pub struct Azimuths {
     pub rmax: f32,
     pub vmax: f32,
@@ -31,21 +31,21 @@ pub struct Azimuths {
 }
 
 // The azimuth of the elevation pass.
-#[derive(Drop)]
+#[derive(Clone, Copy)]
 pub struct Aimed {
     pub vmax: f32,
     pub tally: Tally,
 }
 
 // The pass over elevations under way: the largest gain and its elevation.
-#[derive(Drop)]
+#[derive(Clone, Copy)]
 pub struct Elevations {
     pub wmx: f32,
     pub umax: f32,
     pub tally: Tally,
 }
 
-#[derive(Drop)]
+#[derive(Clone, Copy)]
 pub struct Search {
     pub peak: Peak,
     pub tally: Tally,

@@ -1,3 +1,5 @@
+#![tactic(auto)]
+
 // What Rust and C callers link: the functions of the layers below over plain numbers and slices. Each
 // export is one call of the crate that has its body, under the same contract.
 pub mod antennas;

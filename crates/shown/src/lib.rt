@@ -1,3 +1,5 @@
+#![tactic(auto)]
+
 // A plate to be shown: from the 237 bytes that `plate` reads to 360 gains in hundredths with their
 // kinds, or the first refusal, for any bytes. The answer is `shown_of` (specs/Shown.antt): of a station
 // the gains that `plate` prints, of a curtain, which `plate` refuses, its levels with one factor.
@@ -16,7 +18,7 @@ use stations::show_station;
 use words::big_endian::float_at;
 
 // The answer: a plate, or the number of the refusal.
-#[derive(Drop)]
+#[derive(Clone, Copy)]
 pub enum Answer {
     Plate,
     Refused(u8),
@@ -24,7 +26,7 @@ pub enum Answer {
 
 // The answer with the gains at azimuths 0 to 359 beside it, which say nothing beside a refusal:
 // hundredths as crate `hundredths` raises them, and kinds, 0 a level, 1 a floor, 2 a silence.
-#[derive(Drop)]
+#[derive(Clone, Copy)]
 pub struct Shown {
     pub answer: Answer,
     pub numbers: [u32; 360],

@@ -1,3 +1,5 @@
+#![tactic(auto)]
+
 // Document 01's sine and cosine on f32: the angle is reduced to a quarter of a turn, and its series is
 // summed, in whole numbers; one rounding makes the float, so that its bits are fixed. Each takes every
 // float, a NaN too, and is an equation with a definition of specs/. Proved of the definitions
@@ -23,14 +25,14 @@ const SINE_TERMS: u64 = 7;
 const COSINE_TERMS: u64 = 8;
 
 // An angle: the quarter of the turn, 0 to 3, and the units past its start.
-#[derive(Drop)]
+#[derive(Clone, Copy)]
 struct Angle {
     quarter: u64,
     past: u64,
 }
 
 // The terms of a series that are added, and those that are taken away.
-#[derive(Drop)]
+#[derive(Clone, Copy)]
 struct Series {
     added: u64,
     taken: u64,

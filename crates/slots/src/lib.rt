@@ -3,8 +3,10 @@
 // all answer is defined over the test "slot s breaks limit n" (specs/Told.antt, `told`), and proved to
 // be what the first sentence says (proofs/Lowest.antt, `told-lowest` and `told-nothing`).
 
+#![tactic(auto)]
+
 // Nothing is broken, or this number by this slot.
-#[derive(Drop)]
+#[derive(Clone, Copy)]
 pub enum Why {
     Nothing,
     Broken(u8, u32),

@@ -1,6 +1,8 @@
 // Reading an input to its end, for the programs that take all of theirs. No contract can say what is
 // read; that a call ends is proved.
 
+#![tactic(auto)]
+
 // Reads once, and answers as libc::read does: 0 at the input's end, -1 where the read failed.
 fn skip_some(fd: i32) -> isize {
     let mut rest = io::large_buffer();

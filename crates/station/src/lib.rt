@@ -1,3 +1,5 @@
+#![tactic(auto)]
+
 // The station record: 225 bytes with a mode and 56 floats, and in edition 1 the type, read and
 // written. specs/Record.antt says what a record is, specs/Header.antt what its first bits are,
 // specs/Answers.antt what the reader and the writer answer. Reading and writing undo each other in
@@ -19,7 +21,7 @@ use numeric::float::is_finite;
 use packed::{last_byte, put_word, word_at};
 
 // A station: the mode (`modegain`, 3 for the curtain), `parm`, `gainmax` row by row, `gainmaxb`.
-#[derive(Drop)]
+#[derive(Clone, Copy)]
 pub struct Station {
     pub mode: u8,
     pub parm: [f32; 20],
@@ -28,7 +30,7 @@ pub struct Station {
 }
 
 // The answer: accepted, or the number of the refusal.
-#[derive(Drop)]
+#[derive(Clone, Copy)]
 pub enum Verdict {
     Accepted,
     Refused(u8),
@@ -36,7 +38,7 @@ pub enum Verdict {
 
 // The reader's answer, with the station beside it: an enum can't hold arrays. A refusal's number
 // stands alone, so the station beside it is all zeros.
-#[derive(Drop)]
+#[derive(Clone, Copy)]
 pub struct Reading {
     pub verdict: Verdict,
     pub station: Station,

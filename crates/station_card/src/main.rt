@@ -1,3 +1,5 @@
+#![tactic(auto)]
+
 // The program `station_card`: a station's 237 bytes on standard input, its card on standard output.
 // `card_back::card_of` says what the card is; no contract can say what is read or written. Where there
 // is no card standard output stays empty, and the refusal's number stands on standard error. The stored

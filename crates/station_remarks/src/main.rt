@@ -1,3 +1,5 @@
+#![tactic(auto)]
+
 // The program `station_remarks`: all of standard input in, the remarks on its plate out. `remarks::remarks`
 // says what they are; no contract can say what is read or written, so `tests/card` tries that. Where the
 // input can't be read there is no text, and a line on standard error. The stored run is the rhombic of

@@ -1,3 +1,5 @@
+#![tactic(auto)]
+
 // The last sixty-four field strengths as `service` lends them, their state in 66 lent words. `record` and
 // `show` take any words, and leave in three words what `levels` shows of them (specs/Strengths.antt); a
 // refusal leaves them as they were.

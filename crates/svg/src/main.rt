@@ -1,3 +1,5 @@
+#![tactic(auto)]
+
 // The program `svg`: all of standard input in, its text out. `svg_text::output` says what the text is;
 // no contract can say what is read or written. Where the input can't be read there is no text, and a
 // line on standard error. The stored run is examples/type-1.station with what is folded over shown

@@ -1,3 +1,5 @@
+#![tactic(auto)]
+
 // The program `svg` on slices: the plate of a station as a picture, or two masts on one plate, for any
 // bytes. The texts are `svg_in`, `svg_two_in` (specs/Svg.antt) and the program's `output_in`
 // (specs/Output.antt): what crates `picture` and `pair` draw of the plate that crate `shown` shows, with

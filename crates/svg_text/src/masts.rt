@@ -10,7 +10,7 @@ use shown::show;
 
 // The heading, or the number of the refusal, with the numbers and kinds at azimuths 0 to 359 beside
 // it, which say nothing beside a refusal.
-#[derive(Drop)]
+#[derive(Clone, Copy)]
 pub(crate) struct Mast {
     pub answer: Answer,
     pub numbers: [u32; 360],

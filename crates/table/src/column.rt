@@ -9,7 +9,7 @@ use labels::{push_reading, push_whole};
 use words::bytes::push_bytes;
 
 // What is known of one mast's row. Gains are raised hundredths, azimuths and widths degrees.
-#[derive(Drop)]
+#[derive(Clone, Copy)]
 pub struct Figures {
     pub silent: bool,
     // the peak is a floor, so all is

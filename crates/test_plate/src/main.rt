@@ -3,6 +3,8 @@
 // of data/ up to the first that is missing; `oracle/src/examples.rs` says what each is, and their texts
 // are the file stdout.
 
+#![tactic(auto)]
+
 // Writes the text of one input, and answers whether its file was there.
 fn run_case(letter: u8) -> bool {
     let name = [letter];

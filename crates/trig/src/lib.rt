@@ -1,3 +1,5 @@
+#![tactic(auto)]
+
 // `trigfun`: the sines and cosines of the whole degrees. It is `trig_tables`; what these hold stands in the
 // theorem `degree_tables`.
 ghost use Rattle.std.specs.Prelude.{◌≡◌};

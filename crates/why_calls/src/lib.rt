@@ -1,3 +1,5 @@
+#![tactic(auto)]
+
 // Which slot a refusal is about, as `service` lends it: one number. `why` for the types 1 to 9 and
 // `curtain_why` for the curtain take any floats, and answer what the crates `set_up_why` and
 // `curtain_why` say of them (specs/Why.antt): 0 for nothing, or kind 4 with the refusal's number and

@@ -1,3 +1,5 @@
+#![tactic(auto)]
+
 // Bytes in lent buffers: written one after the other, and read as big-endian words. Each function
 // that writes leaves the other bytes as they were: the buffer afterwards is `laid` of the one before
 // (specs/Laid.antt), and a writer that goes on returns the place after what it wrote (`Wrote`,
