@@ -1,0 +1,14 @@
+-- `to_b`: its day is the last Sunday by the remainder. Assumes nothing.
+use borrow.Author.Rules.{rules}
+use Rattle.calendar.proofs.Changes.{october_day}
+use Rattle.calendar.proofs.seasons.to_b.Statement.{statement}
+use Rattle.calendar.proofs.seasons.to_b.Tie as tie
+
+last-sunday-requires : tie.Need-last-sunday-requires
+last-sunday-requires c κs = search rules
+
+returns : tie.Need-returns
+returns c = rw (c.last-sunday.ensures, october_day c.before.args.year c.before.requires.0 c.before.requires.1)
+
+pub to-b-spec : {M : Type 1} → statement M
+to-b-spec = tie.close (tie.spec last-sunday-requires returns)

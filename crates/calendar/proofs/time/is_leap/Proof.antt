@@ -1,0 +1,12 @@
+-- `is_leap` is its definition. Assumes nothing.
+use mathlib.Core.Path.{refl}
+use Rattle.calendar.specs.Days.{leap}
+use Rattle.calendar.proofs.time.is_leap.Statement.{statement}
+use Rattle.calendar.proofs.time.is_leap.Tie as tie
+
+returns : tie.Need-returns
+unfolding leap
+returns c = refl
+
+pub is-leap-spec : {M : Type 1} → statement M
+is-leap-spec = tie.close (tie.spec returns)
