@@ -8,8 +8,7 @@ use lib.Dec.{ltb, leb}
 use borrow.Author.Tests.{lt-ltb, le-ltb, le-leb, lt-leb, eq-eqb, ne_eqb}
 use Rattle.calendar.specs.Hours.{is_open}
 use Rattle.calendar.proofs.Tests.{le_or_lt}
-use Rattle.calendar.proofs.hours.is_open.Statement.{statement}
-use Rattle.calendar.proofs.hours.is_open.Tie as tie
+use Rattle.calendar.proofs.hours.is_open.Goals as goal
 
 -- each minute comes before another or doesn't
 all-day : (first minute : ℕ) → (leb first minute || ltb minute first) ≡ true
@@ -26,16 +25,13 @@ past-midnight first end minute h = ⊎_elim
     (λ (q : end < first). rw (ne_eqb first end (λ e. omega arith), le-ltb first end h))
     (le_or_lt first end)
 
-returns : tie.Need-returns
+pub returns-then-first-end : goal.returns-then-first-end
 unfolding is_open
-returns c =
-    let a = c.before.args in
-    rw (ne_eqb a.first a.end (λ e. omega arith), lt-ltb a.first a.end c.if1.true)
+returns-then-first-end c =
+    let a = c.args in
+    rw (ne_eqb a.first a.end (λ e. omega arith), lt-ltb a.first a.end c.if-first-end.true)
 
-returns-2 : tie.Need-returns-2
-returns-2 c =
-    let a = c.before.args in
-    past-midnight a.first a.end a.minute c.if1.false
-
-pub is-open-spec : {M : Type 1} → statement M
-is-open-spec = tie.close (tie.spec returns returns-2)
+pub returns-else-first-end : goal.returns-else-first-end
+returns-else-first-end c =
+    let a = c.args in
+    past-midnight a.first a.end a.minute c.if-first-end.false
