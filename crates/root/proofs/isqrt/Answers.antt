@@ -1,5 +1,4 @@
 -- `isqrt`. Its first guess is the Newton step from 2 ^ half, whose square is above n.
-use borrow.Author.Rules.{rules}
 use mathlib.Core.Path.{◌≡◌, sym, ap, ◌∙◌, subst}
 use Prim.Native.Nat.{ℕ, suc, ◌+◌, ◌-◌, ◌*◌, ◌/◌, ◌%◌, ◌^◌, ◌≤◌, ◌<◌}
 use native.Mathlib.Nat.{le_trans, le_of_eq, lt_of_lt_of_le, lt_of_le_of_lt, one-mul, mod-eq_of_lt, div-lt_iff_lt-mul}
@@ -8,8 +7,7 @@ use lib.Dec.{lit<, lit≤}
 use lib.Count.{count_leading_zeros, leading_le, leading_length}
 use lib.Pow.{pow-add, pow_mono, pow_pos}
 use Rattle.root.proofs.Newton.{newton_above}
-use Rattle.root.proofs.isqrt.Statement.{statement}
-use Rattle.root.proofs.isqrt.Tie as tie
+use Rattle.root.proofs.isqrt.Goals as goal
 
 abbrev half : ℕ → ℕ
 half n = (65 - count_leading_zeros 64 n) / 2
@@ -36,42 +34,14 @@ quotient n h = (div-lt_iff_lt-mul (pow_pos (half n))).1 (below n h)
 shifted : (n : ℕ) → 1 * 2 ^ half n % 2 ^ 64 ≡ 2 ^ half n
 shifted n = ap (λ (x : ℕ). x % 2 ^ 64) (one-mul (2 ^ half n)) ∙ mod-eq_of_lt (lt_of_le_of_lt (half_le n) (lit< tt))
 
-sub-half : tie.Need-overflow-sub-half
-sub-half c = le_trans (leading_le 64 c.args.n) (lit≤ tt)
+pub overflow_sub-half : goal.overflow_sub-half
+overflow_sub-half c = le_trans (leading_le 64 c.args.n) (lit≤ tt)
 
-cast-isqrt-from : tie.Need-overflow-cast-isqrt-from
-cast-isqrt-from c = search rules
+pub overflow_add-half : goal.overflow_add-half
+overflow_add-half c = let n = c.args.n in omega (arith, shifted n, half_le n, quotient n c.ranges.n.fits)
 
-shl-isqrt-from : tie.Need-overflow-shl-isqrt-from
-shl-isqrt-from c = search rules
-
-cast-isqrt-from-2 : tie.Need-overflow-cast-isqrt-from-2
-cast-isqrt-from-2 c = search rules
-
-shr-isqrt-from : tie.Need-overflow-shr-isqrt-from
-shr-isqrt-from c = search rules
-
-add-isqrt-from : tie.Need-overflow-add-isqrt-from
-add-isqrt-from c = let n = c.args.n in omega (arith, shifted n, half_le n, quotient n c.ranges.n.fits)
-
-isqrt-from-requires : tie.Need-isqrt-from-requires
-isqrt-from-requires c κs =
+pub isqrt_from-requires : goal.isqrt_from-requires
+isqrt_from-requires c =
     let n = c.args.n in
     subst (λ (p : ℕ). let g = (p + n / 2 ^ half n) / 2 in (g < 2 ^ 32) × (n < suc g * suc g)) (sym (shifted n))
     (omega (arith, half_le n, quotient n c.ranges.n.fits), newton_above n (2 ^ half n) (pow_pos (half n)))
-
-returns : tie.Need-returns
-returns c = search rules
-
-pub isqrt-spec : {M : Type 1} → statement M
-isqrt-spec =
-    tie.close
-    (tie.spec
-    sub-half
-    cast-isqrt-from
-    shl-isqrt-from
-    cast-isqrt-from-2
-    shr-isqrt-from
-    add-isqrt-from
-    isqrt-from-requires
-    returns)
