@@ -1,0 +1,69 @@
+-- `words::big_endian::put_word` meets its contract. Assumes nothing.
+use mathlib.Core.Path.{◌∙◌}
+use native.Mathlib.Omega.{arith}
+use native.Mathlib.Numerals.{unary_clauses}
+use lib.ListN.{length-set}
+use Rattle.words.specs.Digits.{digits}
+use Rattle.words.proofs.Laid.{laid-sets}
+use borrow.Author.Rules.{rules}
+use Rattle.words.proofs.big_endian.put_word.Statement.{statement}
+use Rattle.words.proofs.big_endian.put_word.Tie as tie
+
+cast-out : tie.Need-overflow-cast-out
+cast-out c = search rules
+
+slice-write-out : tie.Need-slice-write-out
+slice-write-out c = search rules
+
+cast-out-2 : tie.Need-overflow-cast-out-2
+cast-out-2 c = search rules
+
+add-out : tie.Need-overflow-add-out
+add-out c = search rules
+
+slice-write-out-2 : tie.Need-slice-write-out-2
+slice-write-out-2 c = rw length-set (omega arith)
+
+cast-out-3 : tie.Need-overflow-cast-out-3
+cast-out-3 c = search rules
+
+add-out-2 : tie.Need-overflow-add-out-2
+add-out-2 c = search rules
+
+slice-write-out-3 : tie.Need-slice-write-out-3
+slice-write-out-3 c = simp length-set (omega arith)
+
+cast-out-4 : tie.Need-overflow-cast-out-4
+cast-out-4 c = search rules
+
+add-out-3 : tie.Need-overflow-add-out-3
+add-out-3 c = search rules
+
+slice-write-out-4 : tie.Need-slice-write-out-4
+slice-write-out-4 c = simp length-set (omega arith)
+
+same_length : tie.Need-same-length
+same_length c = search rules
+
+-- the four stores are a run, of the word's bytes
+returns : tie.Need-returns
+unfolding digits
+returns c = (simp unary_clauses) ∙ laid-sets c.args.out.now c.args.at (digits 256 4 c.args.v) c.requires
+
+pub put-word-spec : {M : Type 1} → statement M
+put-word-spec =
+    tie.close
+    (tie.spec
+    cast-out
+    slice-write-out
+    cast-out-2
+    add-out
+    slice-write-out-2
+    cast-out-3
+    add-out-2
+    slice-write-out-3
+    cast-out-4
+    add-out-3
+    slice-write-out-4
+    same_length
+    returns)
