@@ -1,5 +1,4 @@
 -- `sine::sine_at`: S in the even quarters and C in the odd ones, negated from the third on.
-use borrow.Author.Rules.{rules}
 use mathlib.Core.Path.{◌≡◌, refl, sym, ◌∙◌}
 use mathlib.Core.Logic.{⊎_elim}
 use mathlib.Core.Bool.{Bool, true, false, not, cond, beq}
@@ -12,14 +11,7 @@ use Rattle.numeric.specs.Rounding.{F}
 use Rattle.sine.specs.Sine.{sine_units, cosine_units, sine_at}
 use Rattle.numeric.proofs.Signs.{neg-neg}
 use Rattle.sine.proofs.SignsAndBounds.{sine_at_even, sine_at_uneven, size_number, size-signed}
-use Rattle.sine.proofs.sine_at.Statement.{statement}
-use Rattle.sine.proofs.sine_at.Tie as tie
-
-summed-requires : tie.Need-summed-requires
-summed-requires c κs = search rules
-
-summed-requires-2 : tie.Need-summed-requires-2
-summed-requires-2 c κs = search rules
+use Rattle.sine.proofs.sine_at.Goals as goal
 
 -- two negations are none
 twice : (b n : Bool) (y : Float) → cond (not (beq b n)) (neg y) y ≡ cond n (neg (cond b (neg y) y)) (cond b (neg y) y)
@@ -32,21 +24,18 @@ twice false false y = refl
 signed : (y z : Float) (w q : ℕ) (n : Bool) → y ≡ F (pos w) → z ≡ cond (leb 2 q) (neg (F (pos w))) (F (pos w)) → with_sign y (not (beq (leb 2 q) n)) ≡ cond n (neg z) z
 signed y z w q n e g = size-signed y w (not (beq (leb 2 q) n)) e ∙ twice (leb 2 q) n (F (pos w)) ∙ sym (λ i. cond n (neg (g i)) (g i))
 
-signed-requires : tie.Need-signed-requires
-signed-requires c κs = ⊎_elim (λ w. size_number _ _ (w.2 ∙ w.1.ensures)) (λ w. size_number _ _ (w.2 ∙ w.1.ensures)) c.if1.branch
+pub signed-requires : goal.signed-requires
+signed-requires c = ⊎_elim (λ w. size_number _ _ (w.2 ∙ w.1.ensures)) (λ w. size_number _ _ (w.2 ∙ w.1.ensures)) c.if-q-eq0.branch
 
-returns : tie.Need-returns
+pub returns : goal.returns
 unfolding sine_units cosine_units
 returns c =
-    let s = c.before.before in
+    let s = c in
     let q = s.args.a.quarter in
     let t = s.args.a.past in
     let z = sine_at q t in
     c.signed.ensures
     ∙ ⊎_elim
-    (λ w. signed c.before.if1.size z (sine_units t) q s.args.negative (w.2 ∙ w.1.ensures) (sine_at_even q t s.requires.0 w.0.taken))
-    (λ w. signed c.before.if1.size z (cosine_units t) q s.args.negative (w.2 ∙ w.1.ensures) (sine_at_uneven q t s.requires.0 w.0.left))
-    c.before.if1.branch
-
-pub sine-at-spec : {M : Type 1} → statement M
-sine-at-spec = tie.close (tie.spec summed-requires summed-requires-2 signed-requires returns)
+    (λ w. signed c.if-q-eq0.size z (sine_units t) q s.args.negative (w.2 ∙ w.1.ensures) (sine_at_even q t s.requires.0 w.0.taken))
+    (λ w. signed c.if-q-eq0.size z (cosine_units t) q s.args.negative (w.2 ∙ w.1.ensures) (sine_at_uneven q t s.requires.0 w.0.left))
+    c.if-q-eq0.branch
