@@ -2,7 +2,6 @@
 use mathlib.Core.Path.{◌≡◌, sym, ap, ◌∙◌}
 use Prim.Native.Nat.{ℕ, ◌+◌, ◌*◌, ◌^◌, ◌<◌}
 use native.Mathlib.Omega.{arith}
-use borrow.Author.Rules.{rules}
 use lib.IntN.{ℤ, pos, sub_ℕ, ◌+ℤ◌, ◌-ℤ◌, ◌*ℤ◌}
 use lib.Signed.{mag}
 use mir.Syntax.{w64}
@@ -12,8 +11,8 @@ use Rattle.logarithm.specs.Logarithm.{exponent, digits, binary_logarithm}
 use Rattle.logarithm.proofs.Digits.{digits_lt}
 use Rattle.numeric.proofs.Integers.{mag-sub, mag-mul, mag-add}
 use Rattle.logarithm.proofs.Parts.{significand-is, exponent-is}
-use Rattle.logarithm.proofs.binary_logarithm.Statement.{statement}
-use Rattle.logarithm.proofs.binary_logarithm.Tie as tie
+use Rattle.logarithm.proofs.binary_logarithm.Goals as goal
+use Rattle.logarithm.proofs.binary_logarithm.Goals.{After-digits_left, After-parts_of-parts}
 
 -- The sum of the exponent times 2 ^ 30 and the digits d, from the exponent q counted from -149, as the machine computes it: each step fits, and reads back as itself.
 module _ (q d : ℕ) (h : q < 279) (k : d < 2 ^ 30) where
@@ -50,66 +49,48 @@ module _ (q d : ℕ) (h : q < 279) (k : d < 2 ^ 30) where
   read-sum : to_z w64 (of_z w64 (to_z w64 (of_z w64 (to_z w64 (of_z w64 (to_z w64 q -ℤ pos 149)) *ℤ pos (2 ^ 30))) +ℤ to_z w64 d)) ≡ sub_ℕ q 149 *ℤ pos (2 ^ 30) +ℤ pos d
   read-sum = to_z-of_z w64 _ sum_fits ∙ (λ i. read-product i +ℤ read-digits i)
 
-parts-of-requires : tie.Need-parts-of-requires
-parts-of-requires c κs = c.requires
+pub parts_of-parts-requires : goal.parts_of-parts-requires
+parts_of-parts-requires c = c.requires
 
 -- the exponent that the code counts
-abbrev q : tie.After-parts-of → ℕ
-q c = c.parts-of.result.exponent
+abbrev q : After-parts_of-parts → ℕ
+q c = c.parts_of-parts.result.exponent
 
-few : (c : tie.After-parts-of) → c.parts-of.result.exponent < 279
-few c = c.parts-of.ensures.few
+few : (c : After-parts_of-parts) → c.parts_of-parts.result.exponent < 279
+few c = c.parts_of-parts.ensures.few
 
-cast-significand : tie.Need-overflow-cast-significand
-cast-significand c = search rules
+pub overflow_mul-significand : goal.overflow_mul-significand
+overflow_mul-significand c = record { fits = omega (arith, c.before.parts_of-parts.ensures.below) }
 
-mul-significand : tie.Need-overflow-mul-significand
-mul-significand c = record { fits = omega (arith, c.before.parts-of.ensures.below) }
+pub overflow_cast-exponent : goal.overflow_cast-exponent
+overflow_cast-exponent c = record { sfits = omega (arith, few c.before.before) }
 
-cast-exponent : tie.Need-overflow-cast-exponent
-cast-exponent c = record { sfits = omega (arith, few c.before.before) }
+pub overflow_sub-exponent : goal.overflow_sub-exponent
+overflow_sub-exponent c = exponent-fits (q c.before.before) 0 (few c.before.before) (omega arith)
 
-sub-exponent : tie.Need-overflow-sub-exponent
-sub-exponent c = exponent-fits (q c.before.before) 0 (few c.before.before) (omega arith)
+pub overflow_mul-result : goal.overflow_mul-result
+overflow_mul-result c = product_fits (q c.before.before) 0 (few c.before.before) (omega arith)
 
-mul-result : tie.Need-overflow-mul-result
-mul-result c = product_fits (q c.before.before) 0 (few c.before.before) (omega arith)
+pub digits_left-requires : goal.digits_left-requires
+digits_left-requires c = let p = c.before.before.parts_of-parts.ensures in (omega arith, omega (arith, p.from), omega (arith, p.below))
 
-digits-left-requires : tie.Need-digits-left-requires
-digits-left-requires c κs = let p = c.before.before.parts-of.ensures in (omega arith, omega (arith, p.from), omega (arith, p.below))
+result-lt : (c : After-digits_left) → c.digits_left.result < 2 ^ 30
+result-lt c = rw c.digits_left.ensures (digits_lt 30 _)
 
-result-lt : (c : tie.After-digits-left) → c.digits-left.result < 2 ^ 30
-result-lt c = rw c.digits-left.ensures (digits_lt 30 _)
+pub overflow_cast-result : goal.overflow_cast-result
+overflow_cast-result c = record { sfits = omega (arith, result-lt c) }
 
-cast-result : tie.Need-overflow-cast-result
-cast-result c = record { sfits = omega (arith, result-lt c) }
+pub overflow_add-result : goal.overflow_add-result
+overflow_add-result c = sum_fits (q c.before.before.before) c.digits_left.result (few c.before.before.before) (result-lt c)
 
-add-result : tie.Need-overflow-add-result
-add-result c = sum_fits (q c.before.before.before) c.digits-left.result (few c.before.before.before) (result-lt c)
-
-returns : tie.Need-returns
+pub returns : goal.returns
 unfolding binary_logarithm
 returns c =
     let d = c.before.before.before in
     let x = d.before.args.x in
-    let p = d.parts-of in
+    let p = d.parts_of-parts in
     let M = p.result.significand in
     let k = p.result.exponent in
-    read-sum k c.digits-left.result (few d) (result-lt c)
-    ∙ ap (λ (z : ℤ). z *ℤ pos (2 ^ 30) +ℤ pos c.digits-left.result) (sym (exponent-is x M k p.ensures))
-    ∙ ap (λ (i : ℕ). exponent x *ℤ pos (2 ^ 30) +ℤ pos i) (c.digits-left.ensures ∙ ap (digits 30) (sym (significand-is x M k p.ensures)))
-
-pub binary-logarithm-spec : {M : Type 1} → statement M
-binary-logarithm-spec =
-    tie.close
-    (tie.spec
-    parts-of-requires
-    cast-significand
-    mul-significand
-    cast-exponent
-    sub-exponent
-    mul-result
-    digits-left-requires
-    cast-result
-    add-result
-    returns)
+    read-sum k c.digits_left.result (few d) (result-lt c)
+    ∙ ap (λ (z : ℤ). z *ℤ pos (2 ^ 30) +ℤ pos c.digits_left.result) (sym (exponent-is x M k p.ensures))
+    ∙ ap (λ (i : ℕ). exponent x *ℤ pos (2 ^ 30) +ℤ pos i) (c.digits_left.ensures ∙ ap (digits 30) (sym (significand-is x M k p.ensures)))

@@ -2,7 +2,6 @@
 use mathlib.Core.Path.{◌≡◌, ap, ◌∙◌}
 use Prim.Native.Nat.{◌*◌, ◌^◌, ◌<◌}
 use native.Mathlib.Omega.{arith}
-use borrow.Author.Rules.{rules}
 use lib.IntN.{ℤ, pos, ◌*ℤ◌}
 use lib.Signed.{mag, shr_z}
 use mir.Syntax.{w64}
@@ -10,10 +9,10 @@ use mir.Val.{SFits, to_z, of_z}
 use mir.Facts.{to_z-of_z, to_z_pos}
 use Rattle.logarithm.specs.Logarithm.{scaled}
 use Rattle.numeric.proofs.Integers.{mag-mul, mag-floor}
-use Rattle.logarithm.proofs.scaled_down.Statement.{statement}
-use Rattle.logarithm.proofs.scaled_down.Tie as tie
+use Rattle.logarithm.proofs.scaled_down.Goals as goal
+use Rattle.logarithm.proofs.scaled_down.Goals.{Start}
 
-module _ (s : tie.Start) where
+module _ (s : Start) where
   product_lt : mag (s.args.l *ℤ pos s.args.k) < 2 ^ 39 * 2 ^ 24
   product_lt = mag-mul s.args.l s.args.k (2 ^ 39) (2 ^ 24) (omega arith) s.requires.1 s.requires.0
 
@@ -29,14 +28,8 @@ module _ (s : tie.Start) where
   floor-fits : SFits w64 (scaled s.args.k s.args.l)
   floor-fits = record { sfits = omega (arith, mag-floor (s.args.l *ℤ pos s.args.k) (2 ^ 24) (2 ^ 39) (omega arith) product_lt) }
 
-cast-result : tie.Need-overflow-cast-result
-cast-result c = search rules
+pub overflow_mul-result : goal.overflow_mul-result
+overflow_mul-result c = product_fits c
 
-mul-result : tie.Need-overflow-mul-result
-mul-result c = product_fits c
-
-returns : tie.Need-returns
+pub returns : goal.returns
 returns c = ap (λ (z : ℤ). to_z w64 (of_z w64 (shr_z z (2 ^ 24)))) (read-product c) ∙ to_z-of_z (floor-fits c)
-
-pub scaled-down-spec : {M : Type 1} → statement M
-scaled-down-spec = tie.close (tie.spec cast-result mul-result returns)
