@@ -1,0 +1,10 @@
+use Rattle.floats.specs.Ranges.{between}
+use Rattle.floats.proofs.range.is_between.Goals as goal
+
+pub returns-then-low-x : goal.returns-then-low-x
+unfolding between
+returns-then-low-x c = simp c.if-low-x.true
+
+pub returns-else-low-x : goal.returns-else-low-x
+unfolding between
+returns-else-low-x c = simp c.if-low-x.false
