@@ -9,7 +9,7 @@ unfolding show_of
 returns-then-not-left_by_a_run c = simp (c.if-not-left_by_a_run.true, ← c.left_by_a_run.ensures)
 
 pub shown-requires : goal.shown-requires
-shown-requires c = let s = c.args.state.now in readable s (accepted s (sym c.left_by_a_run.ensures ∙ c.if-not-left_by_a_run.false)
+shown-requires c = let s = c.args.state.now in readable s (accepted s (sym c.left_by_a_run.ensures ∙ c.if-not-left_by_a_run.false))
 
 pub returns : goal.returns
 unfolding show_of

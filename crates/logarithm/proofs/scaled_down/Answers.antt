@@ -17,7 +17,7 @@ module _ (s : Start) where
   product_lt = mag-mul s.args.l s.args.k (2 ^ 39) (2 ^ 24) (omega arith) s.requires.1 s.requires.0
 
   factors : to_z w64 (of_z w64 s.args.l) *ℤ to_z w64 s.args.k ≡ s.args.l *ℤ pos s.args.k
-  factors = λ i. to_z-of_z s.fits.l i *ℤ to_z_pos w64 {n = s.args.k} (omega arith) i
+  factors = λ i. to_z-of_z s.ranges.l i *ℤ to_z_pos w64 {n = s.args.k} (omega arith) i
 
   product_fits : SFits w64 (to_z w64 (of_z w64 s.args.l) *ℤ to_z w64 s.args.k)
   product_fits = rw factors (record { sfits = omega (arith, product_lt) })

@@ -27,7 +27,7 @@ loop-i-preserved c =
       omega (arith, one.ensures, one-le args.khz row.result),
       high.after,
       omega arith,
-      rw (add-one, one.ensures) (pass (rows_in args.words.now) args.khz loop.i loop.rows loop.end (omega (arith, rows-length args.words.now)) loop.invariant.4 row.result row.ensures _ (omega arith) (λ k. omega (arith, low k)) high),
+      rw (add-one, one.ensures) (pass (rows_in args.words.now) args.khz loop.i loop.rows loop.end (omega (arith, rows-length args.words.now)) loop.invariant.4 row.result row.ensures _ (omega arith) (λ k. omega (arith, low.before k)) high.before),
     )
 
 pub returns : goal.returns

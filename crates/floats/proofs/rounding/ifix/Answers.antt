@@ -24,4 +24,4 @@ overflow_cast-result c = let k = kept (to_signed 31 c.args.v) (rw (back c.args.v
 
 pub returns : goal.returns
 unfolding ifix_of
-returns c = let k = kept (to_signed 31 c.args.v) (rw (back c.args.v c.to_i32-k.ensures) at c.if-k-lt0.false) (rw (back c.args.v c.to_i32-k.ensures) at c.if-k-gt90.false) in rw (back c.args.v c.to_i32-k.ensures) (k.same, k.most)
+returns c = let k = kept (to_signed 31 c.args.v) (rw (back c.args.v c.to_i32-k.ensures) at c.if-k-lt0.false) (rw (back c.args.v c.to_i32-k.ensures) at c.if-k-gt90.false) in rw (back c.args.v c.to_i32-k.ensures) record { value = k.same; upper_bound = k.most }

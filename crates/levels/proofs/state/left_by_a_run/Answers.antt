@@ -13,7 +13,7 @@ returns-then-held-gt64 c = rw (eq-eqb _ _ c.if-state-ne66.false, lt-leb _ _ c.if
 
 pub returns-then-not-next_ok : goal.returns-then-not-next_ok
 unfolding can_be_left
-returns-then-not-next_ok c = simp (eq-eqb _ _ c.if-state-ne66.false, le-leb _ _ c.if-held-gt64.false, ← c.next_ok.ensures, c.if-not-next_ok.true
+returns-then-not-next_ok c = simp (eq-eqb _ _ c.if-state-ne66.false, le-leb _ _ c.if-held-gt64.false, ← c.next_ok.ensures, c.if-not-next_ok.true)
 
 pub returns : goal.returns
 unfolding can_be_left
