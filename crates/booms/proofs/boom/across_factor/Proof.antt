@@ -1,0 +1,18 @@
+-- `booms::boom::across_factor` meets its contract.
+use Rattle.booms.specs.Boom.{across_factor}
+use borrow.Author.Rules.{rules}
+use Rattle.booms.proofs.boom.across_factor.Statement.{statement}
+use Rattle.booms.proofs.boom.across_factor.Tie as tie
+
+cos-requires : tie.Need-cos-requires
+cos-requires c κs = search rules
+
+cos-requires-2 : tie.Need-cos-requires-2
+cos-requires-2 c κs = search rules
+
+returns : tie.Need-returns
+unfolding across_factor
+returns c = cc
+
+pub across-factor-spec : {M : Type 1} → statement M
+across-factor-spec = tie.close (tie.spec cos-requires cos-requires-2 returns)

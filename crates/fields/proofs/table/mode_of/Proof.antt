@@ -1,0 +1,20 @@
+-- `mode_of` meets its contract. Assumes nothing.
+use borrow.Author.Tests.{eq-eqb, ne_eqb}
+use Rattle.fields.specs.Table.{mode_of}
+use Rattle.fields.proofs.table.mode_of.Statement.{statement}
+use Rattle.fields.proofs.table.mode_of.Tie as tie
+
+returns : tie.Need-returns
+unfolding mode_of
+returns c = rw (eq-eqb _ _ c.if1.true)
+
+returns-2 : tie.Need-returns-2
+unfolding mode_of
+returns-2 c = rw (ne_eqb _ _ c.before.if1.false, eq-eqb _ _ c.if2.true)
+
+returns-3 : tie.Need-returns-3
+unfolding mode_of
+returns-3 c = rw (ne_eqb _ _ c.before.if1.false, ne_eqb _ _ c.if2.false)
+
+pub mode-of-spec : {M : Type 1} → statement M
+mode-of-spec = tie.close (tie.spec returns returns-2 returns-3)

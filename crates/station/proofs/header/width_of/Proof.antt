@@ -1,0 +1,16 @@
+-- `station::header::width_of` meets its contract. Assumes nothing.
+use borrow.Author.Tests.{eq-eqb, ne_eqb}
+use Rattle.station.specs.Header.{type_bits, width_of}
+use Rattle.station.proofs.header.width_of.Statement.{statement}
+use Rattle.station.proofs.header.width_of.Tie as tie
+
+returns : tie.Need-returns
+unfolding width_of type_bits
+returns c = rw (eq-eqb _ _ c.if1.true)
+
+returns-2 : tie.Need-returns-2
+unfolding width_of type_bits
+returns-2 c = rw (ne_eqb _ _ c.if1.false)
+
+pub width-of-spec : {M : Type 1} → statement M
+width-of-spec = tie.close (tie.spec returns returns-2)
