@@ -15,8 +15,8 @@ use Rattle.power.specs.Inner.{InRange}
 use Rattle.numeric.proofs.Integers.{mag-mul, mag-floor}
 use Rattle.power.proofs.Words.{Field, field, remainder_is, remainder-lt, sum-le, sum-from, power_of_field}
 use Rattle.power.proofs.Scaling.{round-scaled}
-use Rattle.power.proofs.antilogarithm.Statement.{statement}
-use Rattle.power.proofs.antilogarithm.Tie as tie
+use Rattle.power.proofs.antilogarithm.Goals as goal
+use Rattle.power.proofs.antilogarithm.Goals.{After-exponential_sum-sum, Start}
 
 mag-range : (z : ℤ) → InRange z → mag z < 128 * 2 ^ 30
 mag-range (pos a) h = h
@@ -38,12 +38,12 @@ read-rest E = to_z w64 (of_z w64 (read-e E -ℤ read-units E))
 abbrev read-field : ℤ → ℤ
 read-field E = to_z w64 (of_z w64 (read_whole E +ℤ pos 127))
 
-module _ (s : tie.Start) where
+module _ (s : Start) where
   e-is : read-e s.args.e ≡ s.args.e
   e-is = to_z-of_z s.ranges.e
 
   whole-lt : mag (shr_z s.args.e (2 ^ 30)) < 128
-  whole-lt = mag-floor s.args.e (2 ^ 30) 128 (pow_pos 30) (mag-range s.args.e s.pre)
+  whole-lt = mag-floor s.args.e (2 ^ 30) 128 (pow_pos 30) (mag-range s.args.e s.requires)
 
   whole_is : read_whole s.args.e ≡ shr_z s.args.e (2 ^ 30)
   whole_is = ap (λ (z : ℤ). to_z w64 (of_z w64 (shr_z z (2 ^ 30)))) e-is ∙ to_z-of_z (record { sfits = omega (arith, whole-lt) })
@@ -64,11 +64,11 @@ module _ (s : tie.Start) where
   rest-is = to_z-of_z rest-fits ∙ difference
 
   f : ℕ
-  f = (field s.args.e s.pre).0
+  f = (field s.args.e s.requires).0
 
   law : Field (shr_z s.args.e (2 ^ 30)) f
   unfolding f
-  law = (field s.args.e s.pre).1
+  law = (field s.args.e s.requires).1
 
   sum_is : read_whole s.args.e +ℤ pos 127 ≡ pos f
   sum_is = ap (λ (z : ℤ). z +ℤ pos 127) whole_is ∙ law.is
@@ -79,24 +79,24 @@ module _ (s : tie.Start) where
   field_is : read-field s.args.e ≡ pos f
   field_is = to_z-of_z field_fits ∙ sum_is
 
-mul-rest : tie.Need-overflow-mul-rest
-mul-rest c = units-fits c
+pub overflow_mul-rest : goal.overflow_mul-rest
+overflow_mul-rest c = units-fits (goal.at.overflow_mul-rest c).Start
 
-sub-rest : tie.Need-overflow-sub-rest
-sub-rest c = rest-fits c
+pub overflow_sub-rest : goal.overflow_sub-rest
+overflow_sub-rest c = rest-fits (goal.at.overflow_sub-rest c).Start
 
-cast-rest : tie.Need-overflow-cast-rest
-cast-rest c = rw (rest-is c) (tt, record { fits = omega (arith, remainder-lt c.args.e) })
+pub overflow_cast-rest : goal.overflow_cast-rest
+overflow_cast-rest c = rw (rest-is (goal.at.overflow_cast-rest c).Start) (tt, record { fits = omega (arith, remainder-lt c.args.e) })
 
-mul-exponential-sum : tie.Need-overflow-mul-exponential-sum
-mul-exponential-sum c = rw (rest-is c) (record { fits = omega (arith, remainder-lt c.args.e) })
+pub overflow_mul-rest-2 : goal.overflow_mul-rest-2
+overflow_mul-rest-2 c = rw (rest-is (goal.at.overflow_mul-rest-2 c).Start) (record { fits = omega (arith, remainder-lt c.args.e) })
 
-exponential-sum-requires : tie.Need-exponential-sum-requires
-exponential-sum-requires c κs = rw (rest-is c) (omega (arith, remainder-lt c.args.e))
+pub exponential_sum-sum-requires : goal.exponential_sum-sum-requires
+exponential_sum-sum-requires c = rw (rest-is (goal.at.exponential_sum-sum-requires c).Start) (omega (arith, remainder-lt c.args.e))
 
 -- the sum is the definition's, from 2 ^ 30 to 13 * 2 ^ 30
-summed : (c : tie.After-exponential-sum) → c.exponential-sum.result ≡ exponential (remainder c.before.args.e)
-summed c = c.exponential-sum.ensures ∙ ap (λ (z : ℤ). exponential (nat_abs z)) (rest-is c.before)
+summed : (c : After-exponential_sum-sum) → c.exponential_sum-sum.result ≡ exponential (remainder c.before.args.e)
+summed c = c.exponential_sum-sum.ensures ∙ ap (λ (z : ℤ). exponential (nat_abs z)) (rest-is c.before)
 
 module _ (E : ℤ) where
   exponential-le : exponential (remainder E) ≤ 13 * 2 ^ 30
@@ -105,42 +105,27 @@ module _ (E : ℤ) where
   exponential-from : 2 ^ 30 ≤ exponential (remainder E)
   exponential-from = sum-from (remainder E * 744261118 / 2 ^ 30) 12
 
-from-units-requires : tie.Need-from-units-requires
-from-units-requires c κs = rw (summed c) (omega (arith, exponential-le c.before.args.e))
+pub from_units-requires : goal.from_units-requires
+from_units-requires c = rw (summed (goal.at.from_units-requires c).After-exponential_sum-sum) (omega (arith, exponential-le c.args.e))
 
-add-power-of-two : tie.Need-overflow-add-power-of-two
-add-power-of-two c = field_fits c.before.before
+pub overflow_add-whole : goal.overflow_add-whole
+overflow_add-whole c = field_fits (goal.at.overflow_add-whole c).Start
 
-cast-power-of-two : tie.Need-overflow-cast-power-of-two
-cast-power-of-two c = rw (field_is c.before.before) (tt, record { fits = omega (arith, (law c.before.before).to) })
+pub overflow_cast-whole : goal.overflow_cast-whole
+overflow_cast-whole c = rw (field_is (goal.at.overflow_cast-whole c).Start) (tt, record { fits = omega (arith, (law (goal.at.overflow_cast-whole c).Start).to) })
 
-power-of-two-requires : tie.Need-power-of-two-requires
-power-of-two-requires c κs = rw (field_is c.before.before) ((law c.before.before).from, (law c.before.before).to)
+pub power_of_two-requires : goal.power_of_two-requires
+power_of_two-requires c = rw (field_is (goal.at.power_of_two-requires c).Start) ((law (goal.at.power_of_two-requires c).Start).from, (law (goal.at.power_of_two-requires c).Start).to)
 
-returns : tie.Need-returns
+pub returns : goal.returns
 unfolding antilogarithm F
 returns c =
-    let s = c.before.before.before in
+    let s = c in
     let E = s.args.e in
     let w = shr_z E (2 ^ 30) in
     let S = exponential (remainder E) in
-    let p = of_bits binary32 (f s * 2 ^ 23) in
+    let p = of_bits binary32 (f (goal.at.returns c).Start * 2 ^ 23) in
     (λ i. mul binary32
-    ((c.before.from-units.ensures ∙ ap (λ (n : ℕ). F (pos n)) (summed c.before.before)) i)
-    ((c.power-of-two.ensures ∙ ap (λ (z : ℤ). of_bits binary32 (nat_abs z * 2 ^ 23)) (field_is s)) i))
-    ∙ round-scaled S (2 ^ 30) p w (pow_pos 30) (exponential-from E) (omega (arith, exponential-le E)) (law s).deep (power_of_field w (f s) (law s))
-
-pub antilogarithm-spec : {M : Type 1} → statement M
-antilogarithm-spec =
-    tie.close
-    (tie.spec
-    mul-rest
-    sub-rest
-    cast-rest
-    mul-exponential-sum
-    exponential-sum-requires
-    from-units-requires
-    add-power-of-two
-    cast-power-of-two
-    power-of-two-requires
-    returns)
+    ((c.from_units.ensures ∙ ap (λ (n : ℕ). F (pos n)) (summed (goal.at.returns c).After-exponential_sum-sum)) i)
+    ((c.power_of_two.ensures ∙ ap (λ (z : ℤ). of_bits binary32 (nat_abs z * 2 ^ 23)) (field_is (goal.at.returns c).Start)) i))
+    ∙ round-scaled S (2 ^ 30) p w (pow_pos 30) (exponential-from E) (omega (arith, exponential-le E)) (law (goal.at.returns c).Start).deep (power_of_field w (f (goal.at.returns c).Start) (law (goal.at.returns c).Start))
