@@ -1,0 +1,12 @@
+-- `row_at`, a row a turn: none of the first r is one. Assumes nothing.
+use mathlib.Core.Path.{◌≡◌}
+use Prim.Native.Nat.{◌-◌, ◌≤◌}
+use Rattle.fields.specs.Least.{least}
+use Rattle.fields.specs.Table.{LAST, is_row_at}
+use Rattle.fields.proofs.table.row_at.Given as goal
+
+abbrev pub invariant-loop-r : goal.invariant-loop-r
+invariant-loop-r l = (least (is_row_at l.kind l.p) l.r ≡ 0) × (l.r ≤ LAST)
+
+abbrev pub decreases-loop-r : goal.decreases-loop-r
+decreases-loop-r l = LAST - l.r
