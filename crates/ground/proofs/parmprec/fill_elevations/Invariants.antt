@@ -1,0 +1,11 @@
+-- `ground::parmprec::fill_elevations` meets its contract.
+use mathlib.Core.Path.{◌≡◌}
+use Prim.Native.Nat.{◌-◌, ◌≤◌}
+use Rattle.ground.specs.Table.{elevations_to}
+use Rattle.ground.proofs.parmprec.fill_elevations.Given as goal
+
+abbrev pub invariant-loop-u : goal.invariant-loop-u
+invariant-loop-u l = (l.t ≡ elevations_to l.m l.initial.t l.u) × (l.u ≤ 91)
+
+abbrev pub decreases-loop-u : goal.decreases-loop-u
+decreases-loop-u l = 91 - l.u
