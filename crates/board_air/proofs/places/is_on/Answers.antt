@@ -6,18 +6,10 @@ use Rattle.board_air.specs.Words.{stations_to}
 use Rattle.board_air.proofs.Reading.{stations_length}
 use Rattle.board_air.proofs.Slots.{slot-on}
 use native.Mathlib.Omega.{arith}
-use borrow.Author.Rules.{rules}
-use Rattle.board_air.proofs.places.is_on.Statement.{statement}
-use Rattle.board_air.proofs.places.is_on.Tie as tie
+use Rattle.board_air.proofs.places.is_on.Goals as goal
 
-slot-of-requires : tie.Need-slot-of-requires
-slot-of-requires c κs = search rules
-
-returns : tie.Need-returns
+pub returns : goal.returns
 returns c =
-    let a = c.before.before.args in
+    let a = c.args in
     let ss = stations_to a.air.now a.n in
     ap (λ (k : ℕ). ltb k 16) c.slot_of.ensures ∙ slot-on a.id ss (omega (arith, stations_length a.air.now a.n))
-
-pub is-on-spec : {M : Type 1} → statement M
-is-on-spec = tie.close (tie.spec slot-of-requires returns)

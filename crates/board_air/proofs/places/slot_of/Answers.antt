@@ -1,0 +1,31 @@
+-- `board_air::places::slot_of` meets its contract.
+use mathlib.Core.Path.{◌≡◌, refl, sym, ◌∙◌}
+use mathlib.Core.Logic.{⊎_elim}
+use Prim.Native.Nat.{◌-◌}
+use native.Mathlib.Numerals.{add-one}
+use borrow.Author.Tests.{eq-eqb, ne_eqb}
+use Rattle.board_air.specs.Words.{station_at, stations_to}
+use Rattle.board_air.specs.Steps.{slot_of}
+use Rattle.board_air.proofs.Reading.{stations_length}
+use native.Mathlib.Omega.{arith}
+use Rattle.board_air.proofs.places.slot_of.Goals as goal
+
+pub loop-k-init : goal.loop-k-init
+unfolding slot_of stations_to
+loop-k-init c = (refl, omega arith)
+
+pub loop-k-preserved : goal.loop-k-preserved
+unfolding slot_of stations_to station_at
+loop-k-preserved c =
+    let head = c in (
+      ⊎_elim
+          (λ w. rw (add-one, eq-eqb _ _ w.0.taken) (w.1 ∙ sym (stations_length head.args.air.now head.loop-k.k)))
+          (λ w. rw (add-one, ne_eqb _ _ w.0.left) (w.1 ∙ head.loop-k.invariant.0))
+          c.if-air-k.branch,
+      omega arith,
+    )
+
+pub returns : goal.returns
+returns c =
+    let e : c.loop-k.k ≡ c.args.n = omega arith in
+    rw e at c.loop-k.invariant.0
