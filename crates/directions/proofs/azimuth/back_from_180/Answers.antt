@@ -38,4 +38,4 @@ overflow_sub-result c = rw (read (goal.at.overflow_sub-result c).Else-kv-gt180) 
 
 pub returns : goal.returns
 unfolding back180
-returns c = rw (read (goal.at.returns c).Else-kv-gt180) ((inside (goal.at.returns c).Else-kv-gt180).same, omega (arith, (inside (goal.at.returns c).Else-kv-gt180).least))
+returns c = rw (read (goal.at.returns c).Else-kv-gt180) (record { value = (inside (goal.at.returns c).Else-kv-gt180).same; upper_bound = omega (arith, (inside (goal.at.returns c).Else-kv-gt180).least) })
