@@ -46,7 +46,7 @@ module _ (s : Start) where
   whole-lt = mag-floor s.args.e (2 ^ 30) 128 (pow_pos 30) (mag-range s.args.e s.requires)
 
   whole_is : read_whole s.args.e ≡ shr_z s.args.e (2 ^ 30)
-  whole_is = ap (λ (z : ℤ). to_z w64 (of_z w64 (shr_z z (2 ^ 30)))) e-is ∙ to_z-of_z (record { sfits = omega (arith, whole-lt) })
+  whole_is = ap (λ (z : ℤ). to_z w64 (of_z w64 (shr_z z (2 ^ 30)))) e-is ∙ to_z-of_z {w = w64} (record { sfits = omega (arith, whole-lt) })
 
   units-fits : SFits w64 (read_whole s.args.e *ℤ pos (2 ^ 30))
   units-fits = rw whole_is (record { sfits = omega (arith, mag-mul (shr_z s.args.e (2 ^ 30)) (2 ^ 30) 128 (2 ^ 30) (pow_pos 30) (omega arith) whole-lt) })

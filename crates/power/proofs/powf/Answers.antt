@@ -17,7 +17,7 @@ use Rattle.logarithm.proofs.BoundsAndOrder.{logarithm_lt}
 use Rattle.power.proofs.Words.{normal-positive, logarithm_range, scaled_range, exponent-at-most}
 use Rattle.numeric.proofs.rounding.Truncation.{truncated-le}
 use Rattle.power.proofs.powf.Goals as goal
-use Rattle.power.proofs.powf.Goals.{After-scaled_down, After-truncated, Joined-else-is_normal, Then-is_exponent}
+use Rattle.power.proofs.powf.Goals.{After-scaled_down, After-truncated, Joined-else-is_normal, Then-is_exponent, else-is_normal-via-then-is_normal+else-is_exponent, else-is_normal-via-else-is_normal}
 
 -- where x and y are in the domain
 module _ (c : Then-is_exponent) where
@@ -28,7 +28,7 @@ module _ (c : Then-is_exponent) where
   y = c.before.before.before.before.args.y
 
   x-normal : normal c.before.before.before.before.args.x ≡ true
-  x-normal = sym c.before.before.before.is_normal.ensures ∙ c.before.before.else-is_normal.true
+  x-normal = sym c.before.before.before.is_normal.ensures ∙ c.before.before.if-is_normal.true
 
   y-exponent : is_exponent c.before.before.before.before.args.y ≡ true
   y-exponent = sym c.before.is_exponent.ensures ∙ c.if-is_exponent.true
@@ -61,7 +61,7 @@ read-logarithm : (c : After-truncated) → to_z w64 (of_z w64 c.before.binary_lo
 read-logarithm c = to_z-of_z {w = w64} {z = c.before.binary_logarithm.result} (record { sfits = c.before.binary_logarithm.type_inv }) ∙ c.before.binary_logarithm.ensures
 
 pub scaled_down-requires : goal.scaled_down-requires
-scaled_down-requires c = (rw (read-logarithm (goal.at.scaled_down-requires c).After-truncated) (logarithm_lt (x c) (x_fits (goal.at.scaled_down-requires c).Then-is_exponent) (normal-positive (x c) (is_normal (goal.at.scaled_down-requires c).Then-is_exponent))), rw c.truncated.ensures (factor-le (goal.at.scaled_down-requires c).Then-is_exponent))
+scaled_down-requires c = let t = (goal.at.scaled_down-requires c).Then-is_exponent in (rw (read-logarithm (goal.at.scaled_down-requires c).After-truncated) (logarithm_lt (x t) (x_fits t) (normal-positive (x t) (is_normal t))), rw c.truncated.ensures (factor-le t))
 
 read-scaled : (c : After-scaled_down) → to_z w64 (of_z w64 c.scaled_down.result) ≡ scaled (truncated 24 (y c.before.before.before)) (binary_logarithm (x c.before.before.before))
 read-scaled c =
@@ -71,23 +71,22 @@ read-scaled c =
 
 pub antilogarithm-requires : goal.antilogarithm-requires
 antilogarithm-requires c =
-    let t = c in
-    rw (read-scaled (goal.at.antilogarithm-requires c).After-scaled_down) (scaled_range (truncated 24 (y t)) (binary_logarithm (x t)) (factor-le (goal.at.antilogarithm-requires c).Then-is_exponent) (logarithm_range (x t) (x_fits (goal.at.antilogarithm-requires c).Then-is_exponent) (is_normal (goal.at.antilogarithm-requires c).Then-is_exponent)))
+    let t = (goal.at.antilogarithm-requires c).Then-is_exponent in
+    rw (read-scaled (goal.at.antilogarithm-requires c).After-scaled_down) (scaled_range (truncated 24 (y t)) (binary_logarithm (x t)) (factor-le t) (logarithm_range (x t) (x_fits t) (is_normal t)))
 
 pub returns-then-is_exponent : goal.returns-then-is_exponent
 unfolding powf_of
 returns-then-is_exponent c =
-    let t = c in
+    let t = (goal.at.returns-then-is_exponent c).Then-is_exponent in
     let r = antilogarithm (scaled (truncated 24 (y t)) (binary_logarithm (x t))) in
-    c.antilogarithm.ensures ∙ ap antilogarithm (read-scaled (goal.at.returns-then-is_exponent c).After-scaled_down) ∙ sym (λ i. cond (x-normal (goal.at.returns-then-is_exponent c).Then-is_exponent i && y-exponent (goal.at.returns-then-is_exponent c).Then-is_exponent i) r nan)
+    c.antilogarithm.ensures ∙ ap antilogarithm (read-scaled (goal.at.returns-then-is_exponent c).After-scaled_down) ∙ sym (λ i. cond (x-normal t i && y-exponent t i) r nan)
 
 outside : (c : Joined-else-is_normal) → (normal c.before.before.args.x && is_exponent c.before.before.args.y) ≡ false
 outside c =
     let n = sym c.before.is_normal.ensures in
-    ⊎_elim (λ u. (λ i. (n ∙ u.0.taken) i && (sym u.1.ensures ∙ u.2.left) i)) (λ u. (λ i. (n ∙ u.left) i && is_exponent c.before.before.args.y)) c.else-is_normal.branch
+    elim c.else-is_normal.branch [ else-is_normal-via-then-is_normal+else-is_exponent u ↦ (λ i. (n ∙ u.if-is_normal.true) i && (sym u.is_exponent.ensures ∙ u.if-is_exponent.false) i) | else-is_normal-via-else-is_normal u ↦ (λ i. (n ∙ u.if-is_normal.false) i && is_exponent c.before.before.args.y) ]
 
 pub returns-else-is_normal : goal.returns-else-is_normal
 unfolding powf_of of_bits div
 returns-else-is_normal c =
-    let s = c in
-    sym (ap (λ (b : Bool). cond b (antilogarithm (scaled (truncated 24 s.args.y) (binary_logarithm s.args.x))) nan) (outside (goal.at.returns-else-is_normal c).Joined-else-is_normal))
+    sym (ap (λ (b : Bool). cond b (antilogarithm (scaled (truncated 24 c.args.y) (binary_logarithm c.args.x))) nan) (outside (goal.at.returns-else-is_normal c).Joined-else-is_normal))
