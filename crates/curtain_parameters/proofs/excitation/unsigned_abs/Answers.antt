@@ -19,13 +19,13 @@ pub overflow_cast-result : goal.overflow_cast-result
 overflow_cast-result c = rw (back (goal.at.overflow_cast-result c).Start) (below (goal.at.overflow_cast-result c).Then-k-lt0).wide
 
 pub overflow_sub-result : goal.overflow_sub-result
-overflow_sub-result c = rw (back (goal.at.overflow_sub-result c).Start, to_z-of_z w64 _ (below (goal.at.overflow_sub-result c).Then-k-lt0).wide, zero_minus) (below (goal.at.overflow_sub-result c).Then-k-lt0).ranges
+overflow_sub-result c = rw (back (goal.at.overflow_sub-result c).Start, to_z-of_z w64 _ (below (goal.at.overflow_sub-result c).Then-k-lt0).wide, zero_minus) (below (goal.at.overflow_sub-result c).Then-k-lt0).fits
 
 pub overflow_cast-result-then-k-lt0 : goal.overflow_cast-result-then-k-lt0
-overflow_cast-result-then-k-lt0 c = simp (back (goal.at.overflow_cast-result-then-k-lt0 c).Start, to_z-of_z w64 _ (below (goal.at.overflow_cast-result-then-k-lt0 c).Then-k-lt0).wide, zero_minus, to_z-of_z w64 _ (below (goal.at.overflow_cast-result-then-k-lt0 c).Then-k-lt0).ranges, (below (goal.at.overflow_cast-result-then-k-lt0 c).Then-k-lt0).same) ((below (goal.at.overflow_cast-result-then-k-lt0 c).Then-k-lt0).plus, (below (goal.at.overflow_cast-result-then-k-lt0 c).Then-k-lt0).size)
+overflow_cast-result-then-k-lt0 c = simp (back (goal.at.overflow_cast-result-then-k-lt0 c).Start, to_z-of_z w64 _ (below (goal.at.overflow_cast-result-then-k-lt0 c).Then-k-lt0).wide, zero_minus, to_z-of_z w64 _ (below (goal.at.overflow_cast-result-then-k-lt0 c).Then-k-lt0).fits, (below (goal.at.overflow_cast-result-then-k-lt0 c).Then-k-lt0).same) ((below (goal.at.overflow_cast-result-then-k-lt0 c).Then-k-lt0).plus, (below (goal.at.overflow_cast-result-then-k-lt0 c).Then-k-lt0).size)
 
 pub overflow_cast-result-else-k-lt0 : goal.overflow_cast-result-else-k-lt0
 overflow_cast-result-else-k-lt0 c = castable _ _ (back (goal.at.overflow_cast-result-else-k-lt0 c).Start) c.ranges.k.sfits c.if-k-lt0.false
 
 pub returns-then-k-lt0 : goal.returns-then-k-lt0
-returns-then-k-lt0 c = simp (back (goal.at.returns-then-k-lt0 c).Start, to_z-of_z w64 _ (below (goal.at.returns-then-k-lt0 c).Then-k-lt0).wide, zero_minus, to_z-of_z w64 _ (below (goal.at.returns-then-k-lt0 c).Then-k-lt0).ranges, (below (goal.at.returns-then-k-lt0 c).Then-k-lt0).same)
+returns-then-k-lt0 c = simp (back (goal.at.returns-then-k-lt0 c).Start, to_z-of_z w64 _ (below (goal.at.returns-then-k-lt0 c).Then-k-lt0).wide, zero_minus, to_z-of_z w64 _ (below (goal.at.returns-then-k-lt0 c).Then-k-lt0).fits, (below (goal.at.returns-then-k-lt0 c).Then-k-lt0).same)

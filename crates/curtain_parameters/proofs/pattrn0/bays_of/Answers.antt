@@ -28,4 +28,4 @@ unfolding bay_places
 returns c =
     let i = c.loop-ib.invariant in
     let e : c.loop-ib.ib ≡ c.args.nbs = omega arith in
-    (rw (e, to_z-of_z w32 _ c.ranges.islew) at i.0, (rw e at i.1, rw (i.2, e)))
+    record { ps_value = rw (e, to_z-of_z w32 _ c.ranges.islew) at i.0; r_value = rw e at i.1; y_value = rw (i.2, e) }

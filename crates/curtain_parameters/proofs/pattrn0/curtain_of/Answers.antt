@@ -12,6 +12,6 @@ returns c =
     let slew = c.nint in
     let stacks = c.stacks_of-stacks.ensures in
     record {
-      value = rw (bays.1.1, bays.1.0, bays.0, to_z-of_z w32 _ (record { sfits = slew.type_inv }), slew.ensures, stacks.1, stacks.0, c.cos-ceil.ensures, c.bays-nbs.ensures, c.clamp-mode.ensures, c.clamp-nostak.ensures, c.lengths_of-l.ensures);
+      value = rw (bays.y_value, bays.r_value, bays.ps_value, to_z-of_z w32 _ (record { sfits = slew.type_inv }), slew.ensures, stacks.z_value, stacks.c_value, c.cos-ceil.ensures, c.bays-nbs.ensures, c.clamp-mode.ensures, c.clamp-nostak.ensures, c.lengths_of-l.ensures);
       counted = omega arith;
     }
