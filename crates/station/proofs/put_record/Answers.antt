@@ -61,7 +61,7 @@ loop-k-preserved c =
     let start = head in
     let s = start.args.s in
     let w = word.bits_of-w.result in
-    let e : w ≡ get_or (words_of s) head.loop-k.k (to_bits binary32 nan) = word.bits_of-w.ensures ∙ ap (to_bits binary32) word.Float-at.ensures ∙ sym (get_or-map (to_bits binary32) (floats_of s) head.loop-k.k nan) in (
+    let e : w ≡ get_or (words_of s) head.loop-k.k (to_bits binary32 nan) = word.bits_of-w.ensures ∙ ap (to_bits binary32) word.float_at.ensures ∙ sym (get_or-map (to_bits binary32) (floats_of s) head.loop-k.k nan) in (
       omega arith,
       head.loop-k.invariant.1,
       rw (add-one, put.put_word-carry.ensures.bytes, put.put_word-carry.ensures.rest, head.loop-k.invariant.1)

@@ -7,7 +7,6 @@ use Rattle.station.specs.declared.Station.{Station}
 use Rattle.station.specs.Header.{width_of, header_of}
 use Rattle.station.specs.Record.{words_of}
 use Rattle.station.proofs.Packing.{Written}
-use Rattle.station.proofs.put_record.Invariants.{WrittenOf}
 use Rattle.station.proofs.put_record.Given as goal
 
 -- k words of the record are written

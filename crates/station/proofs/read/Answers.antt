@@ -18,7 +18,7 @@ returns-then-not-is_record c =
     c.refuse.ensures ∙ sym (rw (sym c.is_record.ensures ∙ c.if-not-is_record.true))
 
 is-record : (c : Else-not-is_record) → is_record c.before.before.before.args.bytes.now ≡ true
-is-record c = sym c.before.is_record.ensures ∙ not-false _ c.if-not-is_record.false
+is-record c = sym c.before.is_record.ensures ∙ c.if-not-is_record.false
 
 long : (c : Else-not-is_record) → length c.before.before.before.args.bytes.now ≡ 225
 long c = record_length c.before.before.before.args.bytes.now (is-record c)

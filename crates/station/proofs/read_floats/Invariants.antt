@@ -8,7 +8,6 @@ use lib.Seq.{paste}
 use lib.Ieee.{Float, binary32, of_bits}
 use Rattle.floats.specs.Ranges.{finite_to}
 use Rattle.station.specs.Record.{floats_in, station_of}
-use Rattle.station.proofs.read_floats.Invariants.{blanks}
 use Rattle.station.proofs.read_floats.Given as goal
 
 abbrev pub blanks : List Float

@@ -19,7 +19,7 @@ unfolding write_of
 returns-then-not-all_finite c = rw (le-leb _ _ c.if-edition-gt1.false, sym c.all_finite.ensures ∙ c.if-not-all_finite.true)
 
 finite-floats : (c : Else-not-all_finite) → all_finite (floats_of c.before.before.before.before.args.s) ≡ true
-finite-floats c = sym c.before.all_finite.ensures ∙ not-false _ c.if-not-all_finite.false
+finite-floats c = sym c.before.all_finite.ensures ∙ c.if-not-all_finite.false
 
 pub returns-then-typeless : goal.returns-then-typeless
 unfolding write_of
