@@ -20,11 +20,9 @@ given c =
 pub returns-in-Refused : goal.returns-in-Refused
 unfolding maximum_answer
 returns-in-Refused c =
-    let m = c in
-    sym ((preview_law.refused_both (given m) _).1 (sym m.setmaxgain-m.ensures.result_value ∙ rw c.in-Refused.is))
+    sym ((preview_law.refused_both (given (goal.at.returns-in-Refused c).Start) _).1 (sym c.setmaxgain-m.ensures.result_value ∙ rw c.in-Refused.is))
 
 pub returns-in-Gain : goal.returns-in-Gain
 unfolding maximum_answer
 returns-in-Gain c =
-    let m = c in
-    ap accepted c.marked.ensures ∙ sym (from-call (given m) (sym m.setmaxgain-m.ensures.result_value ∙ rw c.in-Gain.is))
+    ap accepted c.marked.ensures ∙ sym (from-call (given (goal.at.returns-in-Gain c).Start) (sym c.setmaxgain-m.ensures.result_value ∙ rw c.in-Gain.is))
