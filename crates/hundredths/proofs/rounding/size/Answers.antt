@@ -3,13 +3,12 @@ use mathlib.Core.Path.{◌≡◌, sym}
 use mathlib.Core.Logic.{inl, inr}
 use Prim.Native.Nat.{ℕ, suc, ◌+◌, ◌-◌, ◌*◌, ◌/◌, ◌%◌, ◌^◌, ◌≤◌, ◌<◌}
 use native.Mathlib.Omega.{arith}
-use borrow.Author.Rules.{rules}
 use lib.Pow.{pow_mono}
 use lib.Ieee.{Float}
 use Rattle.hundredths.specs.Hundredths.{size_of}
 use Rattle.hundredths.proofs.Bits.{Read, read, rest, shifted, shifted_out}
-use Rattle.hundredths.proofs.rounding.size.Statement.{statement}
-use Rattle.hundredths.proofs.rounding.size.Tie as tie
+use Rattle.hundredths.proofs.rounding.size.Goals as goal
+use Rattle.hundredths.proofs.rounding.size.Goals.{After-bits_of-bits}
 
 abbrev past : ℕ → ℕ
 past b = 150 - b % 2 ^ 31 / 2 ^ 23
@@ -42,50 +41,20 @@ module _ {x : Float} {b : ℕ} (r : Read x b) where
         rw (half, q, p_1, p) (shifted r (148 - r.k) (omega arith))
   ]
 
-got : (c : tie.After-bits-of) → Read c.before.args.x c.bits_of.result
-got c = read c.before.args.x c.bits_of.result c.before.well-formed.0.1 c.before.requires c.bits_of.ensures
+got : (c : After-bits_of-bits) → Read c.before.args.x c.bits_of-bits.result
+got c = read c.before.args.x c.bits_of-bits.result c.before.well_formed.0.1 c.before.requires c.bits_of-bits.ensures
 
-bits-of-requires : tie.Need-bits-of-requires
-bits-of-requires c κs = search rules
+pub overflow_sub-past : goal.overflow_sub-past
+overflow_sub-past c = omega (arith, past-from (got (goal.at.overflow_sub-past c).After-bits_of-bits))
 
-add-digits : tie.Need-overflow-add-digits
-add-digits c = search rules
+pub returns-then-past-gt31 : goal.returns-then-past-gt31
+returns-then-past-gt31 c = sym (below_half (got (goal.at.returns-then-past-gt31 c).After-bits_of-bits) (omega arith))
 
-sub-past : tie.Need-overflow-sub-past
-sub-past c = omega (arith, past-from (got c))
+pub overflow_sub-more : goal.overflow_sub-more
+overflow_sub-more c = omega (arith, past-from (got (goal.at.overflow_sub-more c).After-bits_of-bits))
 
-returns : tie.Need-returns
-returns c = sym (below_half (got c.before) (omega arith))
+pub overflow_add-more : goal.overflow_add-more
+overflow_add-more c = omega (arith, half_le (got (goal.at.overflow_add-more c).After-bits_of-bits) (omega arith))
 
-mul-more : tie.Need-overflow-mul-more
-mul-more c = search rules
-
-sub_more : tie.Need-overflow-sub-more
-sub_more c = omega (arith, past-from (got c.before))
-
-shl-more : tie.Need-overflow-shl-more
-shl-more c = search rules
-
-add-more : tie.Need-overflow-add-more
-add-more c = omega (arith, half_le (got c.before) (omega arith))
-
-shr-result : tie.Need-overflow-shr-result
-shr-result c = search rules
-
-returns-2 : tie.Need-returns-2
-returns-2 c = sym (from-half (got c.before) (omega arith))
-
-pub size-spec : {M : Type 1} → statement M
-size-spec =
-    tie.close
-    (tie.spec
-    bits-of-requires
-    add-digits
-    sub-past
-    returns
-    mul-more
-    sub_more
-    shl-more
-    add-more
-    shr-result
-    returns-2)
+pub returns : goal.returns
+returns c = sym (from-half (got (goal.at.returns c).After-bits_of-bits) (omega arith))
