@@ -22,12 +22,10 @@ returns-in-Refused c = rw c.in-Refused.is
 
 pub returns-in-Nothing : goal.returns-in-Nothing
 unfolding screen_words
-returns-in-Nothing c = let start = c in rw c.in-Nothing.is (ap (left 0) (three start.args.out.now 0 0 0 start.requires))
+returns-in-Nothing c = rw c.in-Nothing.is (ap (left 0) (three c.args.out.now 0 0 0 c.requires))
 
 pub returns-in-Levels : goal.returns-in-Levels
 unfolding screen_words
 returns-in-Levels c =
-    let start = c in
-    let found = c.in-Levels.given in
-    rw (found.1, ← c.bits_of-in-Levels.ensures, ← c.bits_of.ensures)
-    (ap (left 0) (three start.args.out.now found.0.0 c.bits_of.result c.bits_of-in-Levels.result start.requires))
+    rw (c.in-Levels.is, ← c.bits_of-in-Levels.ensures, ← c.bits_of.ensures)
+    (ap (left 0) (three c.args.out.now c.in-Levels.held c.bits_of.result c.bits_of-in-Levels.result c.requires))

@@ -11,4 +11,4 @@ pub returns : goal.returns
 unfolding record_call
 returns c =
     let r = c.«record».ensures in
-    rw (c.put_screen.ensures, r.0, r.1, eq-eqb _ _ c.if-out-ne3.false)
+    rw (c.put_screen.ensures, r.value, r.state_after, eq-eqb _ _ c.if-out-ne3.false)
