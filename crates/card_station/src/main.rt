@@ -6,66 +6,52 @@
 // tries that.
 use card::Answer;
 use card_text::Written;
-use standard_input::skip_rest;
+use standard_input::{read_full, skip_rest};
+use std::io;
+use std::io::Write;
 
 // The bytes that a card may have.
 const MOST: usize = 65536;
 
-// A line on standard error.
-fn say(line: &[u8]) {
-    if !io::write_all(libc::STDERR_FILENO, line) {
-        os::fail(b"standard error");
+// The first n bytes as a line; nothing where there are none.
+fn say_first<W: Write>(to: &mut W, bytes: &[u8], n: usize) -> io::Result<()> {
+    if n == 0 || n > bytes.len() {
+        return Ok(());
     }
-}
-
-// The first n bytes as a line on standard error; nothing where there are none.
-fn say_first(bytes: &[u8], n: usize) {
-    if n == 0 {
-        return;
-    }
-    if n <= bytes.len() {
-        say(&bytes[..n]);
-        say(b"\n");
-    }
+    to.write_all(&bytes[..n])?;
+    to.write_all(b"\n")
 }
 
 // The sentence on a card, if there is one.
-fn tell(text: &[u8]) {
+fn tell<W: Write>(to: &mut W, text: &[u8]) -> io::Result<()> {
     let mut line = [0u8; 256];
     let written = card_text::sentence(text, &mut line);
     match written {
-        Written::Refused(_) => {}
-        Written::Length(n) => say_first(&line, n),
+        Written::Refused(_) => Ok(()),
+        Written::Length(n) => say_first(to, &line, n),
     }
 }
 
 // The station of a card without a mistake.
-fn write_station(text: &[u8]) {
+fn write_station<W: Write>(to: &mut W, text: &[u8]) -> io::Result<()> {
     let mut bytes = [0u8; 237];
     let answer = card::station(text, &mut bytes);
     match answer {
-        Answer::Mistaken(_) => {}
-        Answer::Refused(_) => {}
-        Answer::Accepted => {
-            if !io::write_all(libc::STDOUT_FILENO, &bytes) {
-                os::fail(b"standard output");
-            }
-        }
+        Answer::Mistaken(_) => Ok(()),
+        Answer::Refused(_) => Ok(()),
+        Answer::Accepted => to.write_all(&bytes),
     }
 }
 
-fn main() {
+fn main(rt: HostRuntime) -> io::Result<()> {
     // one byte more than a card may have, so that a longer one is noticed
     let mut text = [0u8; 65537];
-    let n = io::read_full(libc::STDIN_FILENO, &mut text);
-    if !skip_rest(libc::STDIN_FILENO) {
-        os::fail(b"standard input");
-        return;
-    }
+    let mut standard_input = rt.stdin();
+    let n = read_full(&mut standard_input, &mut text)?;
+    skip_rest(&mut standard_input)?;
     if MOST < n {
-        say(b"a card has at most 65,536 bytes\n");
-        return;
+        return rt.stderr().write_all(b"a card has at most 65,536 bytes\n");
     }
-    tell(&text[..n]);
-    write_station(&text[..n]);
+    tell(&mut rt.stderr(), &text[..n])?;
+    write_station(&mut rt.stdout(), &text[..n])
 }

@@ -5,34 +5,20 @@
 // is no card standard output stays empty, and the refusal's number stands on standard error. The stored
 // run is a station of type 7.
 use card_back::{Back, card_of};
-use io::print_decimal;
-use standard_input::skip_rest;
+use standard_input::{read_full, skip_rest};
+use std::io;
+use std::io::Write;
 
-// The line of a refusal.
-fn tell_refusal(number: u8) -> bool {
-    io::write_all(libc::STDERR_FILENO, b"refused ")
-        && print_decimal(libc::STDERR_FILENO, number as u64)
-        && io::write_all(libc::STDERR_FILENO, b"\n")
-}
-
-fn main() {
+fn main(rt: HostRuntime) -> io::Result<()> {
     // one byte more than a station has, so that a longer input is noticed
     let mut input = [0u8; 238];
-    let n = io::read_full(libc::STDIN_FILENO, &mut input);
-    if !skip_rest(libc::STDIN_FILENO) {
-        os::fail(b"standard input");
-        return;
-    }
+    let mut standard_input = rt.stdin();
+    let n = read_full(&mut standard_input, &mut input)?;
+    skip_rest(&mut standard_input)?;
     let mut card = [0u8; 8192];
     let answer = card_of(&input[..n], &mut card);
     match answer {
-        Back::Refused(number) => {
-            tell_refusal(number);
-        }
-        Back::Written(end) => {
-            if !io::write_all(libc::STDOUT_FILENO, &card[..end]) {
-                os::fail(b"standard output");
-            }
-        }
+        Back::Refused(number) => eprintln!(rt; "refused {number}"),
+        Back::Written(end) => rt.stdout().write_all(&card[..end]),
     }
 }

@@ -5,25 +5,33 @@
 
 #![tactic(auto)]
 
+use standard_input::read_full;
+use std::fs::File;
+use std::io;
+use std::io::Write;
+
 // Writes the text of one input, and answers whether its file was there.
-fn run_case(letter: u8) -> bool {
-    let name = [letter];
-    let fd = os::open_read(&name);
-    if fd < 0 {
-        return false;
-    }
+fn run_case(rt: &HostRuntime, name: &str) -> io::Result<bool> {
+    let opened = File::open(rt, name);
+    let mut file = match opened {
+        Ok(file) => file,
+        Err(_) => return Ok(false),
+    };
     // more than the longest input has, so that each is read whole
     let mut input = [0u8; 512];
-    let n = io::read_full(fd, &mut input);
-    libc::close(fd);
+    let n = read_full(&mut file, &mut input)?;
     let mut text = [0u8; 8192];
     let end = plate_text::plate(&input[..n], &mut text);
-    io::write_all(libc::STDOUT_FILENO, &text[..end])
+    rt.stdout().write_all(&text[..end])?;
+    Ok(true)
 }
 
-fn main() {
-    let mut letter = b'a';
-    while letter < b'z' && run_case(letter) {
-        letter += 1;
+fn main(rt: HostRuntime) -> io::Result<()> {
+    let names = "abcdefghijklmnopqrstuvwxy";
+    for at in 0..25 {
+        if !run_case(&rt, &names[at..at + 1])? {
+            break;
+        }
     }
+    Ok(())
 }
