@@ -4,4 +4,4 @@ use Rattle.fields.proofs.table.in_kind.Goals as goal
 
 pub returns : goal.returns
 unfolding in_kind
-returns c = rw (c.Mode-of.ensures, c.is_maximum_gain.ensures)
+returns c = rw (c.mode_of.ensures, c.is_maximum_gain.ensures)
