@@ -61,7 +61,8 @@ stations_back : (n : ℕ) {ss : List Station} (rest : List ℕ) → Each Row ss 
 unfolding stations_to places_of
 stations_back n rest none = refl
 stations_back n rest (more {s} {ss} r rs) =
-    rw (append_assoc (places_of ss) (place_of s) rest, stations_back n (place_of s ++ rest) rs, station-back (n ∷ places_of ss) rest s (length ss) r (ap suc (places-length rs) ∙ omega arith))
+    ap (λ (l : List ℕ). stations_to (n ∷ l) (suc (length ss))) (append_assoc (places_of ss) (place_of s) rest)
+    ∙ rw (stations_back n (place_of s ++ rest) rs, station-back (n ∷ places_of ss) rest s (length ss) r (ap suc (places-length rs) ∙ omega arith))
 
 -- zeros
 blank-zeros : (n : ℕ) → blank (replicate n 0) ≡ true

@@ -1,7 +1,7 @@
 -- Who is shown at an azimuth: stations by rank, which is their number's key and, among equal ones, how low the id is. Assumes nothing.
 use mathlib.Core.Path.{◌≡◌, refl, sym, ap, subst, ◌∙◌}
 use mathlib.Core.Logic.{◌⊎◌, inl, inr, ⊎_elim}
-use mathlib.Core.Bool.{Bool, true, false, cond, ◌&&◌, ◌||◌, or_true, false≢true}
+use mathlib.Core.Bool.{Bool, true, false, cond, ◌&&◌, ◌||◌, or-true, false≢true}
 use mathlib.Core.List.Memᴰ
 use mathlib.Core.List.{List, [], ◌∷◌, Memᴰ}
 use Prim.Native.Nat.{ℕ, ◌+◌, ◌-◌, ◌*◌, ◌≤◌}
@@ -108,7 +108,7 @@ within v s (t ∷ ts) f (more p ps) h =
 on_member : {s : Station} {ss : List Station} → Memᴰ s ss → on s.id ss ≡ true
 unfolding on
 on_member {s} (Memᴰ.head {x} e) = rw (eq-eqb x.id s.id (ap (λ (t : Station). t.id) (sym e)))
-on_member {s} (Memᴰ.tail {x} m) = rw (on_member m) (or_true (eqb x.id s.id))
+on_member {s} (Memᴰ.tail {x} m) = rw (on_member m) (or-true (eqb x.id s.id))
 
 -- stations on have different ids
 same-station : {x y : Station} (ss : List Station) → stations_ok ss ≡ true → Memᴰ x ss → Memᴰ y ss → x.id ≡ y.id → x ≡ y

@@ -15,16 +15,13 @@ known : (s : Start) → Good s.args.air.now
 known s = good s.args.air.now s.requires.0
 
 -- the one that leaves has a place below the count
-inside : (c : After-slot_of-slot) → c.slot_of-slot.result < count_in c.before.before.before.before.args.air.now
+inside : (c : After-slot_of-slot) → c.slot_of-slot.result < count_in c.args.air.now
 inside c =
-    let s = c.before.before.before.before in
-    rw c.slot_of-slot.ensures (remove_slot s.args.air.now s.requires.0 (λ i. (c.before.before.type_inv.words i).fits) s.args.id s.requires.1)
+    let s = c in
+    rw c.slot_of-slot.ensures (remove_slot s.args.air.now s.requires.0 (λ i. (c.slice_known-2-1.given i).fits) s.args.id s.requires.1)
 
 pub bounds-air-0 : goal.bounds-air-0
 bounds-air-0 c = omega (arith, (known (goal.at.bounds-air-0 c).Start).size)
-
-pub overflow_cast-n : goal.overflow_cast-n
-overflow_cast-n c = omega (arith, c.slice_known-2-1.given 0)
 
 pub slot_of-slot-requires : goal.slot_of-slot-requires
 slot_of-slot-requires c = ((known (goal.at.slot_of-slot-requires c).Start).size, (known (goal.at.slot_of-slot-requires c).Start).few)
