@@ -10,6 +10,6 @@ returns c =
     let s = c.aspect_of.ensures in
     let degree = c.ifix.ensures in
     record {
-      value = rw (s, degree.0);
-      nat_bound = λ ok. in_bounds _ _ _ s ok degree.1;
+      value = rw (s, degree.value);
+      nat_bound = λ ok. in_bounds _ _ _ s ok degree.upper_bound;
     }

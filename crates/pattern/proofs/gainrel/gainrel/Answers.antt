@@ -16,7 +16,7 @@ reading-requires c =
     let seen = c in
     let p = seen.requires in
     let degree = seen.ifix.ensures in
-    let b = in_bounds _ _ _ (aspect (goal.at.reading-requires c).After-aspect_of-s) p.0 (rw degree.0 at degree.1) in
+    let b = in_bounds _ _ _ (aspect (goal.at.reading-requires c).After-aspect_of-s) p.0 (rw degree.value at degree.upper_bound) in
     (b.0, b.1, b.2, p.1)
 
 pub returns : goal.returns
