@@ -2,7 +2,7 @@
 use mathlib.Core.Path.{◌≡◌, sym, ap, ◌∙◌}
 use Prim.Native.Nat.{◌/◌, ◌≤◌}
 use native.Mathlib.Omega.{arith}
-use borrow.Author.Tests.{lt-ltb, le-ltb, not-false}
+use borrow.Author.Tests.{lt-ltb, le-ltb}
 use lib.Dec.{ltb}
 use lib.ListN.{length, take}
 use Rattle.curtain_parameters.specs.Pattrn0.{curtain_of}
@@ -24,7 +24,7 @@ returns-then-not-space_ok c = simp (← c.station_refusal-number.ensures, le-ltb
 -- what the space is
 room : (c : Else-not-space_ok) → let a = c.before.before.before.before.before.before.args in
     (length a.directions.now / 2 ≤ 64) × (length a.lent.now ≡ length a.directions.now / 2)
-room c = sizes _ _ (sym c.before.space_ok.ensures ∙ not-false _ c.if-not-space_ok.false)
+room c = sizes _ _ (sym c.before.space_ok.ensures ∙ c.if-not-space_ok.false)
 
 pub pairs-found-requires : goal.pairs-found-requires
 pairs-found-requires c = (room (goal.at.pairs-found-requires c).Else-not-space_ok).0
@@ -39,7 +39,7 @@ by-pairs c =
     let a = station.before.before.before.before.args in
     called a.parm a.directions.now a.lent.now a.gnorm factor.result c.pairs-found.result
     (ap (λ n. ltb 0 n) (sym station.before.station_refusal-number.ensures) ∙ le-ltb _ _ station.if-number-gt0.false)
-    (sym space.before.space_ok.ensures ∙ not-false _ space.if-not-space_ok.false)
+    (sym space.before.space_ok.ensures ∙ space.if-not-space_ok.false)
     factor.ensures.value_value
     factor.ensures.readings_value
     c.pairs-found.ensures.by_index
