@@ -1,5 +1,5 @@
 /* The gain of HF antennas (CCIR types 1 to 9 and the NTIA curtain): the library `service`. `./install PREFIX` puts it where a compiler
- * finds it (pkg-config's name is `hf`); `rt staticlib service` writes target/staticlib/libservice.a alone. Link it with -lm.
+ * finds it (pkg-config's name is `hf`); `tools/staticlib` writes target/staticlib/libservice.a alone. Link it with -lm.
  *
  * Every call is total. What is lent (a pointer, then the number of its elements) must be readable, and writable where it isn't
  * const; two lent pieces of one call must not overlap. That is all that a caller owes. A call keeps no state and no pointer, so

@@ -1,4 +1,4 @@
-//! Links the proved static library `service`, which `rt staticlib service` writes from the repository's root, and takes the Rust
+//! Links the proved static library `service`, which `tools/staticlib` writes from the repository's root, and takes the Rust
 //! module of the antennas from the source tree: the folder that HFCAST_SRC names, or ../shared/docs/src beside the repository.
 //! None of the source's text is committed. Where it isn't at hand, the crate builds without the comparisons that need it.
 #[path = "src/impostors.rs"]
@@ -24,7 +24,7 @@ fn main() {
 
 fn link_service(folder: &Path) {
     let archive = folder.join("libservice.a");
-    assert!(archive.exists(), "{} is missing: run `rt staticlib service` in the repository's root", archive.display());
+    assert!(archive.exists(), "{} is missing: run `tools/staticlib` in the repository's root", archive.display());
     println!("cargo:rerun-if-changed={}", archive.display());
     println!("cargo:rustc-link-search=native={}", folder.display());
     println!("cargo:rustc-link-lib=static=service");
