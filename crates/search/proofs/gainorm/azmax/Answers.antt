@@ -11,6 +11,6 @@ returns c =
     let n = c.turns_in-count.ensures in
     let r = c.azmax_turns.ensures in
     record {
-      value = rw (azmax_turned, r.0, n.0);
-      readings_bound = rw r.1 (omega (arith, n.1));
+      value = rw (azmax_turned, r.value, n.value);
+      readings_bound = rw r.readings_value (omega (arith, n.upper_bound));
     }

@@ -12,6 +12,6 @@ returns c =
     let swept = c.sweep-s.ensures in
     let refined = c.azmax-r.ensures in
     record {
-      value = simp (refined.0, swept.0, c.plane_elevation-u.ensures);
-      readings_bound = omega (arith, refined.1, swept.1);
+      value = simp (refined.value, swept.value, c.plane_elevation-u.ensures);
+      readings_bound = omega (arith, refined.readings_bound, swept.readings_value);
     }
