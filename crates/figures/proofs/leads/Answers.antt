@@ -1,0 +1,25 @@
+-- `figures::leads` meets its contract. Assumes nothing.
+use Prim.Native.Nat.{◌-◌}
+use mathlib.Core.Path.{◌≡◌, refl}
+use mathlib.Core.Logic.{⊎_elim}
+use native.Mathlib.Omega.{arith}
+use native.Mathlib.Numerals.{add-one}
+use Rattle.figures.specs.Figures.{leads_at, count_to, leads_of}
+use Rattle.figures.proofs.leads.Goals as goal
+
+pub loop-v-init : goal.loop-v-init
+unfolding count_to
+loop-v-init c = (refl, omega arith, omega arith)
+
+pub loop-v-preserved : goal.loop-v-preserved
+unfolding count_to
+loop-v-preserved c =
+    let led = c.leads_at.ensures in
+    ⊎_elim
+    (λ w. (rw (add-one, ← led, w.0.taken) (omega arith), omega arith, omega arith))
+    (λ w. (rw (add-one, ← led, w.0.left) (omega arith), omega arith, omega arith))
+    c.if-leads_at.branch
+
+pub returns : goal.returns
+unfolding leads_of
+returns c = let e : c.loop-v.v ≡ 360 = omega arith in (rw e at c.loop-v.invariant.0, omega arith)
