@@ -60,4 +60,4 @@ returns c =
     let a = c.args in
     let card = card_of a.text.now in
     let none : least (is_wrong a.kind card) (length card) ≡ 0 = least-fewer (is_wrong a.kind card) l.number (walk_end l.invariant.0 c.loop-at-test.false) l.invariant.1 in
-    c.good2.ensures ∙ (sym (line-0 a.kind card) ∙ sym (ap (mistake_in a.kind card) none))
+    c.good.ensures ∙ (sym (line-0 a.kind card) ∙ sym (ap (mistake_in a.kind card) none))

@@ -5,7 +5,7 @@ use Rattle.card.proofs.checks.missing_field.Goals as goal
 
 pub returns-then-f-eq0 : goal.returns-then-f-eq0
 unfolding missing_field
-returns-then-f-eq0 c = rw (c.good2.ensures, ← c.first_missing-f.ensures, eq-eqb _ _ c.if-f-eq0.true)
+returns-then-f-eq0 c = rw (c.good.ensures, ← c.first_missing-f.ensures, eq-eqb _ _ c.if-f-eq0.true)
 
 pub returns : goal.returns
 unfolding missing_field

@@ -19,7 +19,7 @@ bad c = c.first_bad-k.ensures ∙ ap (first_bad c.before.before.before.before.be
 
 pub returns-then-word_count-eq0 : goal.returns-then-word_count-eq0
 unfolding mistake_in
-returns-then-word_count-eq0 c = rw (c.good-then-k-eq0.ensures, ← counted (goal.at.returns-then-word_count-eq0 c).After-word_count, eq-eqb _ _ c.if-word_count-eq0.true)
+returns-then-word_count-eq0 c = rw (c.good.ensures, ← counted (goal.at.returns-then-word_count-eq0 c).After-word_count, eq-eqb _ _ c.if-word_count-eq0.true)
 
 pub field_fault-what-requires : goal.field_fault-what-requires
 field_fault-what-requires c = c.requires
@@ -30,7 +30,7 @@ returns-then-is_fault c = rw (← counted (goal.at.returns-then-is_fault c).Afte
 
 pub returns-then-k-eq0 : goal.returns-then-k-eq0
 unfolding mistake_in
-returns-then-k-eq0 c = rw (c.good3.ensures, ← counted (goal.at.returns-then-k-eq0 c).After-word_count, ne_eqb _ _ c.if-word_count-eq0.false, ← c.field_fault-what.ensures, sym c.is_fault.ensures ∙ c.if-is_fault.false, ← bad (goal.at.returns-then-k-eq0 c).After-first_bad-k, eq-eqb _ _ c.if-k-eq0.true)
+returns-then-k-eq0 c = rw (c.good-then-k-eq0.ensures, ← counted (goal.at.returns-then-k-eq0 c).After-word_count, ne_eqb _ _ c.if-word_count-eq0.false, ← c.field_fault-what.ensures, sym c.is_fault.ensures ∙ c.if-is_fault.false, ← bad (goal.at.returns-then-k-eq0 c).After-first_bad-k, eq-eqb _ _ c.if-k-eq0.true)
 
 pub returns : goal.returns
 unfolding mistake_in

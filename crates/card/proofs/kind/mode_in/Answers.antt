@@ -12,4 +12,4 @@ returns-then-iant-eq-CURTAIN c = rw (eq-eqb _ _ c.if-iant-eq-CURTAIN.true)
 
 pub returns : goal.returns
 unfolding mode_in
-returns c = rw (ne_eqb _ _ c.if-iant-eq-CURTAIN.false) (c.Mode-of.ensures ∙ ap mode_of (c.field_in.ensures ∙ ap (λ (line : Line). field_in line) c.find-line.ensures.words))
+returns c = rw (ne_eqb _ _ c.if-iant-eq-CURTAIN.false) (c.mode_of.ensures ∙ ap mode_of (c.field_in.ensures ∙ ap (λ (line : Line). field_in line) c.find-line.ensures.words))

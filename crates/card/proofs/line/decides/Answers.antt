@@ -4,7 +4,7 @@ use Rattle.card.proofs.line.decides.Goals as goal
 
 pub returns-then-is_maximum_gain : goal.returns-then-is_maximum_gain
 unfolding decides
-returns-then-is_maximum_gain c = rw (c.has_field.ensures, ← c.field_of-f.ensures, ← c.Mode-of.ensures, ← c.is_maximum_gain.ensures, c.if-is_maximum_gain.true)
+returns-then-is_maximum_gain c = rw (c.has_field.ensures, ← c.field_of-f.ensures, ← c.mode_of.ensures, ← c.is_maximum_gain.ensures, c.if-is_maximum_gain.true)
 
 pub returns-else-is_maximum_gain : goal.returns-else-is_maximum_gain
 unfolding decides

@@ -9,7 +9,6 @@ use Rattle.card.specs.declared.line.Sought.{Sought}
 use Rattle.card.specs.Card.{card_of, line_at, word}
 use Rattle.card.specs.Inner.{is_sought}
 use Rattle.card.proofs.Walk.{Walk}
-use Rattle.card.proofs.line.find.Invariants.{is_here}
 use Rattle.card.proofs.line.find.Given as goal
 
 -- line i begins with what is sought

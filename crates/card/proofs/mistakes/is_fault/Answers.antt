@@ -1,19 +1,15 @@
 -- `is_fault`: the first case is none, and no other. Assumes nothing.
 use mathlib.Core.Path.{◌≡◌, refl}
 use mathlib.Core.Bool.{true}
-use mathlib.Core.List.{[], ◌∷◌}
-use types.Run.{OneOf, miss}
-use denote.Enum.Declared as Declared
 use Rattle.card.specs.declared.mistakes.Fault.{Fault}
-use Rattle.card.specs.contracts.mistakes.Fault.{the_type}
 use Rattle.card.specs.declared.mistakes.Fault.TheVariants.{Nothing, Unknown, Twice, Foreign, TooFew, TooMany, NotANumber, TooLarge, Limit, Missing}
 use Rattle.card.specs.Mistake.{is_fault}
 use Rattle.card.proofs.mistakes.is_fault.Goals as goal
 
 -- a case that isn't the first
-another : (what : Fault) → OneOf (1 ∷ 2 ∷ 3 ∷ 4 ∷ 5 ∷ 6 ∷ 7 ∷ 8 ∷ 9 ∷ []) (Declared.tag_of the_type what) → true ≡ is_fault what
+another : (what : Fault) → (what ≡ Nothing → ⊥) → true ≡ is_fault what
 unfolding is_fault
-another Nothing h = absurd (miss (1 ∷ 2 ∷ 3 ∷ 4 ∷ 5 ∷ 6 ∷ 7 ∷ 8 ∷ 9 ∷ []) 0 tt h)
+another Nothing h = absurd (h refl)
 another Unknown h = refl
 another (Twice i) h = refl
 another Foreign h = refl
@@ -29,4 +25,4 @@ unfolding is_fault
 returns-in-Nothing c = rw c.in-Nothing.is
 
 pub returns-in_default : goal.returns-in_default
-returns-in_default c = another c.args.what c.in_default.keys2
+returns-in_default c = another c.args.what c.in_default.not-Nothing
