@@ -1,11 +1,11 @@
 -- `figures::leads` meets its contract. Assumes nothing.
 use Prim.Native.Nat.{◌-◌}
 use mathlib.Core.Path.{◌≡◌, refl}
-use mathlib.Core.Logic.{⊎_elim}
 use native.Mathlib.Omega.{arith}
 use native.Mathlib.Numerals.{add-one}
 use Rattle.figures.specs.Figures.{leads_at, count_to, leads_of}
 use Rattle.figures.proofs.leads.Goals as goal
+use Rattle.figures.proofs.leads.Goals.{then-leads_at, else-leads_at}
 
 pub loop-v-init : goal.loop-v-init
 unfolding count_to
@@ -15,10 +15,10 @@ pub loop-v-preserved : goal.loop-v-preserved
 unfolding count_to
 loop-v-preserved c =
     let led = c.leads_at.ensures in
-    ⊎_elim
-    (λ w. (rw (add-one, ← led, w.0.taken) (omega arith), omega arith, omega arith))
-    (λ w. (rw (add-one, ← led, w.0.left) (omega arith), omega arith, omega arith))
-    c.if-leads_at.branch
+    elim c.if-leads_at.branch [
+      | then-leads_at w ↦ (rw (add-one, ← led, w.if-leads_at.true) (omega arith), omega arith, omega arith)
+      | else-leads_at w ↦ (rw (add-one, ← led, w.if-leads_at.false) (omega arith), omega arith, omega arith)
+    ]
 
 pub returns : goal.returns
 unfolding leads_of
