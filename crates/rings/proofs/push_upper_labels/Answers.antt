@@ -1,0 +1,43 @@
+-- `rings::push_upper_labels` meets its contract: the labels so far, of 50 bytes at most each. Assumes nothing.
+use Prim.Native.Nat.{◌-◌, ◌/◌, ◌≤◌}
+use mathlib.Core.Path.{◌≡◌, refl, ◌∙◌}
+use native.Mathlib.Numerals.{add-one}
+use native.Mathlib.Omega.{arith}
+use lib.Dec.{lit≤}
+use Rattle.words.proofs.Writing.{wrote_none}
+use Rattle.labels.proofs.Put.{upto, more, next-to}
+use Rattle.dial.specs.Scale.{span_of}
+use Rattle.rings.specs.Rings.{labels_to}
+use Rattle.rings.proofs.push_upper_labels.Goals as goal
+
+pub loop-k-init : goal.loop-k-init
+unfolding labels_to
+loop-k-init c =
+    let a = c.args in
+    (lit≤ tt, omega arith, refl, upto 0 (wrote_none a.out.now a.at) (lit≤ tt))
+
+pub push_label-end-requires : goal.push_label-end-requires
+push_label-end-requires c = (omega arith, c.radius.ensures.1)
+
+pub loop-k-preserved : goal.loop-k-preserved
+unfolding labels_to
+loop-k-preserved c =
+    let pushed = c in
+    let radius = pushed in
+    let head = radius in
+    let label = rw (radius.radius.ensures.0, head.bottom-low.ensures.0, add-one) at pushed.push_label-end.ensures in (
+      omega arith,
+      omega arith,
+      pushed.push_label-end.auto.out ∙ head.loop-k.invariant.2,
+      rw add-one (more _ (next-to head.loop-k.invariant.3 label (omega arith)) (omega arith)),
+    )
+
+pub shape_of-out : goal.shape_of-out
+shape_of-out c = c.loop-k.invariant.2
+
+pub returns : goal.returns
+returns c =
+    let start = c in
+    let e : c.loop-k.k ≡ span_of start.args.peak / 1000 = omega arith in
+    let all = more 300 c.loop-k.invariant.3 (omega arith) in
+    rw e at all
