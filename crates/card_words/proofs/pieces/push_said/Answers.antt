@@ -1,0 +1,12 @@
+-- `card_words::pieces::push_said` meets its contract. Assumes nothing.
+use native.Mathlib.Omega.{arith}
+use Rattle.card_words.proofs.Pushing.{all, both, within}
+use Rattle.card_words.proofs.pieces.push_said.Goals as goal
+
+pub returns : goal.returns
+returns c =
+    let at-bytes2 = c in
+    let at-shown = at-bytes2 in
+    let at-bytes = at-shown in
+    let start = at-bytes in
+    within (both (both (all at-bytes.push_bytes-word_at.ensures) at-shown.push_shown-said_at.ensures (omega arith)) (all at-bytes2.push_bytes.ensures) (omega arith)) (omega arith)
