@@ -1,0 +1,25 @@
+-- `picture::refusal_picture` meets its contract. Assumes nothing.
+use mathlib.Core.Path.{refl}
+use native.Mathlib.Omega.{arith}
+use borrow.Author.Tests.{lt-ltb, le-ltb}
+use lib.ListN.{length}
+use Rattle.words.proofs.Writing.{wrote_none}
+use Rattle.picture.specs.Picture.{refusal_in}
+use Rattle.picture.proofs.Within.{within}
+use Rattle.picture.proofs.refusal_picture.Goals as goal
+
+pub returns-then-out-lt65536 : goal.returns-then-out-lt65536
+unfolding refusal_in
+returns-then-out-lt65536 c =
+    let out = c.args.out.now in
+    rw (lt-ltb (length out) 65536 c.if-out-lt65536.true) (wrote_none out 0, (omega arith, refl))
+
+pub shape_of-out : goal.shape_of-out
+shape_of-out c = c.push_refusal.auto.out
+
+pub returns : goal.returns
+unfolding refusal_in
+returns c =
+    let p = c in
+    let left = p.if-out-lt65536.false in
+    rw (le-ltb _ _ left) (p.push_refusal.ensures.wrote, within p.push_refusal.ensures (omega (arith, left, p.push_refusal.auto.out)))
