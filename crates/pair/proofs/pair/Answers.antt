@@ -1,0 +1,36 @@
+-- `pair::pair` meets its contract. Assumes nothing.
+use mathlib.Core.Path.{refl}
+use native.Mathlib.Omega.{arith}
+use borrow.Author.Tests.{lt-ltb, le-ltb}
+use lib.ListN.{length}
+use Rattle.words.proofs.Writing.{wrote_none, within}
+use Rattle.pair.specs.Pair.{pair_in}
+use Rattle.pair.proofs.pair.Goals as goal
+
+pub returns-then-out-lt131072 : goal.returns-then-out-lt131072
+unfolding pair_in
+returns-then-out-lt131072 c =
+    let out = c.args.out.now in
+    rw (lt-ltb (length out) 131072 c.if-out-lt131072.true) (wrote_none out 0, (omega arith, refl))
+
+pub returns-then-peak-gt200000 : goal.returns-then-peak-gt200000
+unfolding pair_in
+returns-then-peak-gt200000 c =
+    let peak = c in
+    let out = peak.args.out.now in
+    rw (le-ltb _ _ peak.if-out-lt131072.false, ← peak.greater_peak-peak.ensures, lt-ltb _ _ c.if-peak-gt200000.true) (wrote_none out 0, (omega arith, refl))
+
+pub push_pair-requires : goal.push_pair-requires
+push_pair-requires c = (omega arith, c.greater_peak-peak.ensures, omega (arith, c.if-peak-gt200000.false))
+
+pub shape_of-out : goal.shape_of-out
+shape_of-out c = c.push_pair.auto.out
+
+pub returns : goal.returns
+unfolding pair_in
+returns c =
+    let p = c in
+    let peak = p in
+    let left = peak.if-out-lt131072.false in
+    let w = p.push_pair.ensures in
+    rw (le-ltb _ _ left, ← peak.greater_peak-peak.ensures, le-ltb _ _ p.if-peak-gt200000.false) (w.wrote, within w.wrote (omega (arith, w.wrote.after, w.short, left, p.push_pair.auto.out)))
