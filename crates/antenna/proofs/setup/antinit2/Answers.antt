@@ -12,7 +12,7 @@ returns-then-number-gt0 c =
     let p = asked.args.parm in
     let lent = asked.args.lent.now in
     let r = set-up-refused p (length lent) _ _ asked.jant-iant.ensures asked.refusal-number.ensures asked.if-number-gt0.true in
-    (c.refuse.ensures.result_value ∙ sym r, (refused-lent p lent _ r, c.refuse.ensures.antenna_value ∙ beside_refusal p lent _ r))
+    record { result_value = c.refuse.ensures.result_value ∙ sym r; lent_after = refused-lent p lent _ r; antenna_value = c.refuse.ensures.antenna_value ∙ beside_refusal p lent _ r }
 
 pub model_of-model-requires : goal.model_of-model-requires
 model_of-model-requires c =
@@ -30,7 +30,7 @@ returns-then-search_refused c =
     _ search.gainorm-found.result asked.if-number-gt0.false search.model_of-model.ensures.value
     (rw (search.gainorm-found.ensures, search.table_of-table.ensures, search.start_of.ensures)) in
     let r = s ∙ found-refused _ _ _ c.search_refused.ensures c.if-search_refused.true in
-    (c.refuse-then-search_refused.ensures.result_value ∙ sym r, (refused-lent p lent PATTERN r, c.refuse-then-search_refused.ensures.antenna_value ∙ beside_refusal p lent PATTERN r))
+    record { result_value = c.refuse-then-search_refused.ensures.result_value ∙ sym r; lent_after = refused-lent p lent PATTERN r; antenna_value = c.refuse-then-search_refused.ensures.antenna_value ∙ beside_refusal p lent PATTERN r }
 
 pub lay_over-requires : goal.lay_over-requires
 lay_over-requires c =
@@ -53,4 +53,4 @@ returns c =
     _ search.gainorm-found.result asked.if-number-gt0.false search.model_of-model.ensures.value
     (rw (search.gainorm-found.ensures, search.table_of-table.ensures, search.start_of.ensures)) in
     let r = s ∙ found-accepted _ _ _ c.search_refused.ensures c.if-search_refused.false in
-    (c.accept.ensures.result_value ∙ sym r, (c.lay_over.ensures ∙ accepted-lent p lent _ _ _ search.table_of-table.ensures r, c.accept.ensures.antenna_value ∙ sym (ap beside_of r)))
+    record { result_value = c.accept.ensures.result_value ∙ sym r; lent_after = c.lay_over.ensures ∙ accepted-lent p lent _ _ _ search.table_of-table.ensures r; antenna_value = c.accept.ensures.antenna_value ∙ sym (ap beside_of r) }

@@ -9,6 +9,6 @@ returns c =
     let e = c.elements_of-l.ensures in
     let k = c.constants_of-constants.ensures in
     let start = c in record {
-      value = simp (c.slewed.ensures, c.ground_of-ground.ensures, c.trigfun-trig.ensures, k, e.0);
-      result_value = counts_made _ e.1 (rw k (constant_counts start.args.iant _ _ start.requires));
+      value = simp (c.slewed.ensures, c.ground_of-ground.ensures, c.trigfun-trig.ensures, k, e.value);
+      result_value = counts_made _ e.listed (rw k (constant_counts start.args.iant _ _ start.requires));
     }

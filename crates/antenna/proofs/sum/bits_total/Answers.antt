@@ -13,7 +13,7 @@ pub loop-i-preserved : goal.loop-i-preserved
 loop-i-preserved c =
     let head = c.loop-i in
     let t = c.args.table.now in
-    (omega arith, rw (add-one, c.wrapping_add_u32-sum.ensures, c.bits_of.ensures) (sum-next t head.i head.sum (omega arith) head.invariant.1))
+    (omega arith, rw (add-one, c.wrapping_add_u32-sum.ensures.value, c.bits_of.ensures) (sum-next t head.i head.sum (omega arith) head.invariant.1))
 
 pub returns : goal.returns
 returns c =
