@@ -13,14 +13,14 @@ pub returns-then-out-lt65536 : goal.returns-then-out-lt65536
 unfolding picture_in
 returns-then-out-lt65536 c =
     let out = c.args.out.now in
-    rw (lt-ltb (length out) 65536 c.if-out-lt65536.true) (wrote_none out 0, (omega arith, refl))
+    rw (lt-ltb (length out) 65536 c.if-out-lt65536.true) (record { text = wrote_none out 0; within = (omega arith, refl) })
 
 pub returns-then-peak-gt200000 : goal.returns-then-peak-gt200000
 unfolding picture_in peak_of
 returns-then-peak-gt200000 c =
     let azimuth = c in
     let out = azimuth.args.out.now in
-    rw (le-ltb _ _ azimuth.if-out-lt65536.false, ← azimuth.peak_azimuth-azimuth.ensures.0, lt-ltb _ _ c.if-peak-gt200000.true) (wrote_none out 0, (omega arith, refl))
+    rw (le-ltb _ _ azimuth.if-out-lt65536.false, ← azimuth.peak_azimuth-azimuth.ensures.0, lt-ltb _ _ c.if-peak-gt200000.true) (record { text = wrote_none out 0; within = (omega arith, refl) })
 
 pub push_picture-requires : goal.push_picture-requires
 unfolding peak_of
@@ -45,4 +45,4 @@ returns c =
     let azimuth = p in
     let left = azimuth.if-out-lt65536.false in
     let w = p.push_picture.ensures in
-    rw (le-ltb _ _ left, ← azimuth.peak_azimuth-azimuth.ensures.0, le-ltb _ _ p.if-peak-gt200000.false) (w.wrote, within w (omega (arith, left, p.push_picture.auto.out)))
+    rw (le-ltb _ _ left, ← azimuth.peak_azimuth-azimuth.ensures.0, le-ltb _ _ p.if-peak-gt200000.false) (record { text = w.wrote; within = within w (omega (arith, left, p.push_picture.auto.out)) })

@@ -12,7 +12,7 @@ pub returns-then-out-lt65536 : goal.returns-then-out-lt65536
 unfolding refusal_in
 returns-then-out-lt65536 c =
     let out = c.args.out.now in
-    rw (lt-ltb (length out) 65536 c.if-out-lt65536.true) (wrote_none out 0, (omega arith, refl))
+    rw (lt-ltb (length out) 65536 c.if-out-lt65536.true) (record { text = wrote_none out 0; within = (omega arith, refl) })
 
 pub shape_of-out : goal.shape_of-out
 shape_of-out c = c.push_refusal.auto.out
@@ -22,4 +22,4 @@ unfolding refusal_in
 returns c =
     let p = c in
     let left = p.if-out-lt65536.false in
-    rw (le-ltb _ _ left) (p.push_refusal.ensures.wrote, within p.push_refusal.ensures (omega (arith, left, p.push_refusal.auto.out)))
+    rw (le-ltb _ _ left) (record { text = p.push_refusal.ensures.wrote; within = within p.push_refusal.ensures (omega (arith, left, p.push_refusal.auto.out)) })
