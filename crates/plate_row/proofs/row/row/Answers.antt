@@ -1,6 +1,6 @@
 -- `plate_row::row::row` meets its contract.
 use mathlib.Core.Path.{◌≡◌, sym, ap, ◌∙◌}
-use mathlib.Core.Bool.{Bool}
+use mathlib.Core.Bool.{Bool, not}
 use native.Mathlib.Omega.{arith}
 use lib.ListN.{length}
 use Rattle.answers.specs.Refusals.{LEVEL}
@@ -40,7 +40,7 @@ returns-then-not-exist c =
     let a = asked.args in
     let r =
     row-not-finite a.ant a.table.now a.u a.giso a.lent.now _ (asked-with (goal.at.returns-then-not-exist c).After-row_asked) _ asked.refusal-number.ensures _ _ _ _ asked.if-number-gt0.false
-    c.numbers-all.ensures c.front_to_back-ratio.ensures c.all_finite.ensures c.is_finite.ensures c.if-not-exist.true in
+    c.numbers-all.ensures c.front_to_back-ratio.ensures c.all_finite.ensures c.is_finite.ensures (ap not c.if-not-exist.true) in
     record {
       result_value = sym r;
       lent_after = refused-row a.ant a.table.now a.u a.giso a.lent.now LEVEL r;
@@ -63,7 +63,7 @@ returns c =
     let same : length numbers.result ≡ length a.lent.now = omega (arith, l, numbers.type_inv) in
     let r =
     row-finite a.ant a.table.now a.u a.giso a.lent.now _ (asked-with (goal.at.returns c).After-row_asked) _ asked.refusal-number.ensures _ _ _ _ asked.if-number-gt0.false
-    numbers.ensures c.front_to_back-ratio.ensures c.all_finite.ensures c.is_finite.ensures c.if-not-exist.false in record {
+    numbers.ensures c.front_to_back-ratio.ensures c.all_finite.ensures c.is_finite.ensures (ap not c.if-not-exist.false) in record {
       result_value = sym r;
       lent_after = c.lay_over.ensures ∙ laid-whole a.lent.now numbers.result same ∙ numbers.ensures ∙ accepted-row a.ant a.table.now a.u a.giso a.lent.now _ r;
     }
