@@ -1,6 +1,6 @@
 -- `card_text::sentence_line` meets its contract. Assumes nothing.
 use mathlib.Core.Path.{◌≡◌, refl, sym, subst, ◌∙◌}
-use Prim.Native.Nat.{ℕ, suc, ◌≤◌}
+use Prim.Native.Nat.{ℕ, ◌≤◌}
 use native.Mathlib.Nat.{zero-add}
 use native.Mathlib.Omega.{arith}
 use mathlib.Core.List.{List, [], ◌∷◌}
@@ -11,9 +11,7 @@ use borrow.Author.Tests.{lt-ltb, le-ltb, ne_eqb}
 use Rattle.words.specs.Writing.{Wrote}
 use Rattle.words.proofs.Writing.{wrote_none, then, within}
 use Rattle.card_text.specs.Sentences.{sentence_of, line_in}
-use borrow.Author.Rules.{rules}
-use Rattle.card_text.proofs.sentence_line.Statement.{statement}
-use Rattle.card_text.proofs.sentence_line.Tie as tie
+use Rattle.card_text.proofs.sentence_line.Goals as goal
 
 -- a text without bytes
 nothing : (s : List ℕ) → length s ≡ 0 → s ≡ []
@@ -37,42 +35,24 @@ module _ {l m : List ℕ} {n : ℕ} (text : List ℕ) (room : 256 ≤ length l) 
       let full : eqb (length (sentence_of text)) 0 ≡ false = ne_eqb _ _ (λ (e : length (sentence_of text) ≡ 0). some (size ∙ e)) in
       rw (le-ltb _ 256 room, full) (then w p h)
 
-returns : tie.Need-returns
+pub returns-then-out-lt256 : goal.returns-then-out-lt256
 unfolding line_in
+returns-then-out-lt256 c =
+    rw (lt-ltb _ 256 c.if-out-lt256.true) (wrote_none c.args.out.now 0, (omega arith, refl))
+
+pub returns-then-n-eq0 : goal.returns-then-n-eq0
+returns-then-n-eq0 c =
+    let pushed = c in
+    record {
+      line = line-none _ pushed.if-out-lt256.false pushed.push_sentence-n.ensures.wrote c.if-n-eq0.true;
+      within = (omega arith, refl);
+    }
+
+pub returns : goal.returns
 returns c =
-    rw (lt-ltb _ 256 c.if1.true) (wrote_none c.before.before.before.args.out.now 0, (omega arith, refl))
-
-push-sentence-requires : tie.Need-push-sentence-requires
-push-sentence-requires c κs = search rules
-
-same_length : tie.Need-same-length
-same_length c = search rules
-
-returns-2 : tie.Need-returns-2
-returns-2 c =
-    let pushed = c.before.before.before in
-    (line-none _ pushed.before.before.if1.false pushed.push-sentence.ensures.wrote c.if2.true, (omega arith, refl))
-
-push-requires : tie.Need-push-requires
-push-requires c κs = search rules
-
-same-length-2 : tie.Need-same-length-2
-same-length-2 c = search rules
-
-returns-3 : tie.Need-returns-3
-returns-3 c =
-    let pushed = c.before.before.before.before.before.before.before in
-    let line = line-some _ pushed.before.before.if1.false pushed.push-sentence.ensures.wrote c.before.before.before.before.if2.false c.before.before.push.ensures (omega arith) in
-    (line, within line (omega (arith, line.after)))
-
-pub sentence-line-spec : {M : Type 1} → statement M
-sentence-line-spec =
-    tie.close
-    (tie.spec
-    returns
-    push-sentence-requires
-    same_length
-    returns-2
-    push-requires
-    same-length-2
-    returns-3)
+    let pushed = c in
+    let line = line-some _ pushed.if-out-lt256.false pushed.push_sentence-n.ensures.wrote c.if-n-eq0.false c.push.ensures (omega arith) in
+    record {
+      line = line;
+      within = within line (omega (arith, line.after));
+    }
