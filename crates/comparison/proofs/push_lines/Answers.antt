@@ -18,7 +18,7 @@ push_masts-round_at-requires c =
 together : (c : After-leads-second_leads) → c.before.leads-first_leads.result + c.leads-second_leads.result ≤ 360
 together c =
     let a = c.before.before.before.before.before.before.before.before.before.before.before.before.before.before.before.before.before.args in
-    omega (arith, leads-sum a.a.now a.a-kinds.now a.b.now a.b-kinds.now, c.before.leads-first_leads.ensures.0, c.leads-second_leads.ensures.0)
+    omega (arith, leads-sum a.a.now a.a_kinds.now a.b.now a.b_kinds.now, c.before.leads-first_leads.ensures.0, c.leads-second_leads.ensures.0)
 
 pub push_round-requires : goal.push_round-requires
 push_round-requires c =
