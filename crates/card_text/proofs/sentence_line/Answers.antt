@@ -38,7 +38,7 @@ module _ {l m : List ℕ} {n : ℕ} (text : List ℕ) (room : 256 ≤ length l) 
 pub returns-then-out-lt256 : goal.returns-then-out-lt256
 unfolding line_in
 returns-then-out-lt256 c =
-    rw (lt-ltb _ 256 c.if-out-lt256.true) (wrote_none c.args.out.now 0, (omega arith, refl))
+    rw (lt-ltb _ 256 c.if-out-lt256.true) record { line = wrote_none c.args.out.now 0; within = (omega arith, refl) }
 
 pub returns-then-n-eq0 : goal.returns-then-n-eq0
 returns-then-n-eq0 c =

@@ -6,4 +6,4 @@ pub returns : goal.returns
 unfolding mistake_words
 returns c =
     let at-what = c in
-    rw (c.capped-4.ensures, c.capped-3.ensures, c.capped-2.ensures, c.capped.ensures, at-what.what_of-w.ensures, at-what.Line-of.ensures, at-what.gain_field.ensures, at-what.kind_in-kind.ensures)
+    rw (c.capped-4.ensures, c.capped-3.ensures, c.capped-2.ensures, c.capped.ensures, at-what.what_of-w.ensures, at-what.line_of-earlier.ensures, at-what.gain_field.ensures, at-what.kind_in-kind.ensures)

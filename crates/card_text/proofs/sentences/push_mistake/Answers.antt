@@ -13,4 +13,4 @@ returns c =
     let at-bytes = at-subject in
     let at-number = at-bytes in
     let start = at-number in
-    rw (← at-number.gain_field.ensures, ← at-number.Line-of.ensures) (within (both (both (both at-number.push_number-colon_at.ensures (all at-bytes.push_bytes-field_at.ensures) (omega arith)) at-subject.push_subject-said_at.ensures (omega arith)) at-said-of.push_said_of.ensures (omega arith)) (omega arith))
+    rw (← at-number.gain_field.ensures, ← at-number.line_of-earlier.ensures) (within (both (both (both at-number.push_number-colon_at.ensures (all at-bytes.push_bytes-field_at.ensures) (omega arith)) at-subject.push_subject-said_at.ensures (omega arith)) at-said-of.push_said_of.ensures (omega arith)) (omega arith))

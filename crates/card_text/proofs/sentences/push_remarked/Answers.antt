@@ -14,7 +14,7 @@ returns-then-is_remarked c =
     let at-bytes = at_field in
     let at-number = at-bytes in
     let start = at-number in
-    rw (← at-number.is_remarked.ensures, ← at-number.Line-of.ensures, ← at-number.word_at-word.ensures, at-number.if-is_remarked.true) (within (both (both (both at-number.push_number-colon_at.ensures (all at-bytes.push_bytes-field_at.ensures) (omega arith)) at_field.push_field-remark_at.ensures (omega arith)) at-remark.push_remark.ensures (omega arith)) (omega arith))
+    rw (← at-number.is_remarked.ensures, ← at-number.line_of-line.ensures, ← at-number.word_at-word.ensures, at-number.if-is_remarked.true) (within (both (both (both at-number.push_number-colon_at.ensures (all at-bytes.push_bytes-field_at.ensures) (omega arith)) at_field.push_field-remark_at.ensures (omega arith)) at-remark.push_remark.ensures (omega arith)) (omega arith))
 
 pub returns : goal.returns
 unfolding remark_text
