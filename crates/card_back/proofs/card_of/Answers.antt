@@ -30,7 +30,7 @@ pub returns-in-Refused : goal.returns-in-Refused
 returns-in-Refused c =
     let read = c in
     let a = read.args in
-    no_record a.station.now a.out.now read.if-station-ne237.false read.read-reading.result read.read-reading.ensures c.enum_told.given.0.0 c.in-Refused.is
+    no_record a.station.now a.out.now read.if-station-ne237.false read.read-reading.result read.read-reading.ensures c.in-Refused.field-0 c.in-Refused.is
 
 pub returns-else-not-finite_end : goal.returns-else-not-finite_end
 returns-else-not-finite_end c =

@@ -5,7 +5,7 @@ use Rattle.card_back.proofs.text.place_of.Goals as goal
 
 pub returns-then-p-lt56 : goal.returns-then-p-lt56
 unfolding place_in
-returns-then-p-lt56 c = rw (lt-ltb _ _ c.if-p-lt56.true) c.Float-at.ensures
+returns-then-p-lt56 c = rw (lt-ltb _ _ c.if-p-lt56.true) c.float_at.ensures
 
 pub returns : goal.returns
 unfolding place_in
