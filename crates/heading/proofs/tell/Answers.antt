@@ -16,14 +16,14 @@ slice_bounds-read-end c = sym (length-take-le 225 c.args.input.now (omega arith)
 pub returns-in-Refused : goal.returns-in-Refused
 unfolding heading_answer
 returns-in-Refused c =
-    let told = c.in-Refused.given in
+    let told = c.in-Refused.is in
     let reading = c in
     let whole = reading in
-    sym (read-refused whole.args.input.now whole.if-input-ne237.false reading.read-reading.result reading.read-reading.ensures told.0.0 told.1)
+    sym (read-refused whole.args.input.now whole.if-input-ne237.false reading.read-reading.result reading.read-reading.ensures _ told)
 
 pub returns-in-Accepted : goal.returns-in-Accepted
 returns-in-Accepted c =
-    let told = c.in-Accepted.given in
+    let told = c.in-Accepted.is in
     let reading = c in
     let whole = reading in
-    c.tell_read.ensures ∙ sym (read_told whole.args.input.now whole.if-input-ne237.false reading.read-reading.result reading.read-reading.ensures told.1)
+    c.tell_read.ensures ∙ sym (read_told whole.args.input.now whole.if-input-ne237.false reading.read-reading.result reading.read-reading.ensures told)

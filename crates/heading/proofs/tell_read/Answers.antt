@@ -8,7 +8,7 @@ unfolding read_heading
 returns-then-s-ne3 c =
     let elevation = c in
     let mode = elevation.args.s.mode in
-    rw (ne_eqb mode 3 c.if-s-ne3.true, ← elevation.float_at-elevation.ensures, ← elevation.float_at-design.ensures, ← elevation.Float-at.ensures) c.tell_station.ensures
+    rw (ne_eqb mode 3 c.if-s-ne3.true, ← elevation.float_at-elevation.ensures, ← elevation.float_at-design.ensures, ← elevation.float_at-mhz.ensures) c.tell_station.ensures
 
 pub returns : goal.returns
 unfolding read_heading
