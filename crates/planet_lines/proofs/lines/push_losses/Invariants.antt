@@ -1,0 +1,15 @@
+-- `planet_lines::lines::push_losses` meets its contract: the lines so far, of 12 bytes at most each. Assumes nothing.
+use Prim.Native.Nat.{◌+◌, ◌*◌, ◌-◌, ◌≤◌}
+use mathlib.Core.Path.{◌≡◌}
+use lib.ListN.{length}
+use Rattle.words.specs.Writing.{Wrote}
+use Rattle.planet_lines.specs.Losses.{loss_at}
+use Rattle.planet_lines.specs.Text.{lines_to}
+use Rattle.planet_lines.proofs.lines.push_losses.Given as goal
+
+abbrev pub invariant-loop-angle : goal.invariant-loop-angle
+invariant-loop-angle l =
+    (l.angle ≤ 360) × (l.end ≤ l.at + 12 * l.angle) × (length l.out ≡ length l.initial.out) × Wrote l.initial.out l.at (lines_to (loss_at l.numbers) l.angle) l.out l.end
+
+abbrev pub decreases-loop-angle : goal.decreases-loop-angle
+decreases-loop-angle l = 360 - l.angle
