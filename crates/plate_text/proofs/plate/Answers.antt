@@ -29,20 +29,22 @@ pub returns-then-text-lt8192 : goal.returns-then-text-lt8192
 unfolding text_in
 returns-then-text-lt8192 c =
     let text = c.args.text.now in
-    rw (lt-ltb (length text) 8192 c.if-text-lt8192.true) (wrote_none text 0, (omega arith, refl))
+    rw (lt-ltb (length text) 8192 c.if-text-lt8192.true) record { text = wrote_none text 0; within = (omega arith, refl) }
 
 pub returns-in-Refused : goal.returns-in-Refused
 returns-in-Refused c =
     let put = c in
-    let told = put.in-Refused.given in
+    let told = put.in-Refused.is in
     let prepared = put in
     let input = prepared.args.input.now in
-    with_length input (rw (request-refused input prepared.prepare-prepared.result (answered (goal.at.returns-in-Refused c).After-prepare-prepared) told.0.0 told.1) put.push_refusal.ensures) (omega arith) (omega arith)
+    let both = with_length input (rw (request-refused input prepared.prepare-prepared.result (answered (goal.at.returns-in-Refused c).After-prepare-prepared) _ told) put.push_refusal.ensures) (omega arith) (omega arith) in
+    record { text = both.0; within = both.1 }
 
 pub returns-in-Ready : goal.returns-in-Ready
 returns-in-Ready c =
     let put = c in
-    let told = put.in-Ready.given in
+    let told = put.in-Ready.is in
     let prepared = put in
     let input = prepared.args.input.now in
-    with_length input (rw (request-ready input prepared.prepare-prepared.result (answered (goal.at.returns-in-Ready c).After-prepare-prepared) told.1, ← prepared.blank_table-table.ensures, ← prepared.prepare-prepared.ensures.table_after) put.put_row.ensures) (omega arith) (omega arith)
+    let both = with_length input (rw (request-ready input prepared.prepare-prepared.result (answered (goal.at.returns-in-Ready c).After-prepare-prepared) told, ← prepared.blank_table-table.ensures, ← prepared.prepare-prepared.ensures.table_after) put.put_row.ensures) (omega arith) (omega arith) in
+    record { text = both.0; within = both.1 }

@@ -16,14 +16,14 @@ room = length-replicate 360 +0
 
 pub returns-in-Refused : goal.returns-in-Refused
 returns-in-Refused c =
-    let told = c.in-Refused.given in
+    let told = c.in-Refused.is in
     let answered = c in
     let a = answered.args in
-    rw (row-refused a.q a.table.now lent room answered.row-answer.result answered.row-answer.ensures.result_value told.0.0 told.1) c.push_refusal.ensures
+    rw (row-refused a.q a.table.now lent room answered.row-answer.result answered.row-answer.ensures.result_value _ told) c.push_refusal.ensures
 
 pub returns-in-FrontToBack : goal.returns-in-FrontToBack
 returns-in-FrontToBack c =
-    let told = c.in-FrontToBack.given in
+    let told = c.in-FrontToBack.is in
     let answered = c in
     let a = answered.args in
-    rw (row-lines a.q a.table.now lent room answered.row-answer.result answered.row-answer.ensures.result_value told.0.0 told.1, ← answered.row-answer.ensures.lent_after) c.put_lines.ensures
+    rw (row-lines a.q a.table.now lent room answered.row-answer.result answered.row-answer.ensures.result_value _ told, ← answered.row-answer.ensures.lent_after) c.put_lines.ensures
