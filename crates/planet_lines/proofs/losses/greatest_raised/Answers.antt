@@ -1,12 +1,12 @@
 -- `planet_lines::losses::greatest_raised` meets its contract. Assumes nothing.
 use Prim.Native.Nat.{◌+◌, ◌-◌}
 use mathlib.Core.Path.{◌≡◌}
-use mathlib.Core.Logic.{⊎_elim}
 use native.Mathlib.Omega.{arith}
 use lib.ListN.{length}
 use Rattle.planet_lines.specs.Losses.{top_to, top}
 use Rattle.planet_lines.proofs.Greatest.{span_at, top-more}
 use Rattle.planet_lines.proofs.losses.greatest_raised.Goals as goal
+use Rattle.planet_lines.proofs.losses.greatest_raised.Goals.{then-greatest-next, else-greatest-next}
 
 pub raised-greatest-requires : goal.raised-greatest-requires
 raised-greatest-requires c = span_at _ c.requires.0 0 (omega arith)
@@ -24,7 +24,7 @@ loop-i-preserved c =
     let i = head.loop-i.i in
     let e : i + 1 - 1 ≡ i = omega arith in
     let more = top-more head.args.numbers.now i (omega arith) in
-    (rw e (⊎_elim (λ w. omega (arith, more)) (λ w. omega (arith, more)) c.if-greatest-next.branch), omega arith, omega arith)
+    (rw e (elim c.if-greatest-next.branch [ then-greatest-next w ↦ omega (arith, more) | else-greatest-next w ↦ omega (arith, more) ]), omega arith, omega arith)
 
 pub returns : goal.returns
 unfolding top
