@@ -13,14 +13,12 @@ slice_bounds-read-end c = sym (length-take-le 225 c.args.input.now (omega arith)
 
 pub returns-in-Refused : goal.returns-in-Refused
 returns-in-Refused c =
-    let told = c.in-Refused.given in
     let reading = c in
     let whole = reading in
-    c.refuse-in-Refused.ensures ∙ sym (read-refused whole.args.input.now whole.if-input-ne237.false reading.read-reading.result reading.read-reading.ensures told.0.0 told.1)
+    c.refuse-in-Refused.ensures ∙ sym (read-refused whole.args.input.now whole.if-input-ne237.false reading.read-reading.result reading.read-reading.ensures c.in-Refused.n c.in-Refused.is)
 
 pub returns-in-Accepted : goal.returns-in-Accepted
 returns-in-Accepted c =
-    let told = c.in-Accepted.given in
     let reading = c in
     let whole = reading in
-    c.show_read.ensures ∙ sym (read-shown whole.args.input.now whole.if-input-ne237.false reading.read-reading.result reading.read-reading.ensures told.1)
+    c.show_read.ensures ∙ sym (read-shown whole.args.input.now whole.if-input-ne237.false reading.read-reading.result reading.read-reading.ensures c.in-Accepted.is)

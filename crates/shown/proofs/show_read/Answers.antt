@@ -12,4 +12,4 @@ unfolding read_plate
 returns c =
     let mhz = c in
     let mode = mhz.args.s.mode in
-    rw (eq-eqb mode 3 mhz.if-s-ne3.false, ← c.float_at-elevation.ensures, ← c.float_at-design.ensures, ← mhz.Float-at.ensures) c.show_curtain.ensures
+    rw (eq-eqb mode 3 mhz.if-s-ne3.false, ← c.float_at-elevation.ensures, ← c.float_at-design.ensures, ← c.float_at-mhz.ensures) c.show_curtain.ensures

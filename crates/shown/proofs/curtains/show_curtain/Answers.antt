@@ -11,22 +11,20 @@ returns-then-number-gt0 c =
 
 pub returns-in-Refused : goal.returns-in-Refused
 returns-in-Refused c =
-    let told = c.in-Refused.given in
     let found = c in
     let number = found.refusal-number in
     let a = found.args in
     c.refuse-in-Refused.ensures
     ∙ sym
     (factor-refused a.s a.mhz a.design a.u number.result number.ensures found.if-number-gt0.false
-    found.factor_of-found.result found.factor_of-found.ensures told.0.0 told.1)
+    found.factor_of-found.result found.factor_of-found.ensures c.in-Refused.n c.in-Refused.is)
 
 pub returns-in-Level : goal.returns-in-Level
 returns-in-Level c =
-    let told = c.in-Level.given in
     let found = c in
     let number = found.refusal-number in
     let a = found.args in
     c.show_levels.ensures
     ∙ sym
     (factor-found a.s a.mhz a.design a.u number.result number.ensures found.if-number-gt0.false
-    found.factor_of-found.result found.factor_of-found.ensures told.0.0 told.1)
+    found.factor_of-found.result found.factor_of-found.ensures c.in-Level.factor c.in-Level.is)

@@ -29,7 +29,6 @@ refuse-requires c = tt
 
 pub returns-in-Refused : goal.returns-in-Refused
 returns-in-Refused c =
-    let told = c.in-Refused.given in
     let asked = c in
     let loop = asked.loop-v in
     let a = asked.args in
@@ -37,19 +36,18 @@ returns-in-Refused c =
     c.refuse.ensures
     ∙ sym
     (plate-refused gain (λ (k : ℕ). (level, at loop.levels k)) loop.v loop.invariant.2
-    (level-refused a.parm a.factor a.u loop.v asked.gain-answer.result asked.gain-answer.ensures told.0.0 told.1) (omega arith))
+    (level-refused a.parm a.factor a.u loop.v asked.gain-answer.result asked.gain-answer.ensures c.in-Refused.n c.in-Refused.is) (omega arith))
 
 pub loop-v-preserved : goal.loop-v-preserved
 loop-v-preserved c =
-    let told = c.in-Level.given in
     let asked = c in
     let loop = asked.loop-v in
     let a = asked.args in
     let gain = level_at a.parm a.factor a.u in (
       omega arith,
       rw length-set loop.invariant.1,
-      filled_more (λ (k : ℕ) (x : Float). gain k ≡ accepted (level, x)) loop.levels loop.v told.0.0 nan (omega arith) loop.invariant.2
-          (level-there a.parm a.factor a.u loop.v asked.gain-answer.result asked.gain-answer.ensures told.0.0 told.1),
+      filled_more (λ (k : ℕ) (x : Float). gain k ≡ accepted (level, x)) loop.levels loop.v c.in-Level.x nan (omega arith) loop.invariant.2
+          (level-there a.parm a.factor a.u loop.v asked.gain-answer.result asked.gain-answer.ensures c.in-Level.x c.in-Level.is),
     )
 
 pub slice_bounds-in_hundredths-end : goal.slice_bounds-in_hundredths-end

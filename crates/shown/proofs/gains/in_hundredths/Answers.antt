@@ -3,7 +3,6 @@ use Prim.Native.Nat.{ℕ, ◌-◌}
 use mathlib.Core.Path.{◌≡◌, refl, sym, ◌∙◌}
 use mathlib.Core.Bool.{true}
 use native.Mathlib.Omega.{arith}
-use borrow.Author.Tests.{not-false}
 use lib.ListN.{length-set}
 use Rattle.floats.specs.Ops.{at}
 use Rattle.hundredths.specs.Hundredths.{in_span}
@@ -38,7 +37,7 @@ returns-then-not-in_span c =
 
 -- the loop's number, past the test
 in-span-known : (c : Else-not-in_span) → in_span (at c.before.before.before.before.before.before.args.numbers.now c.before.before.before.before.loop-v.v) ≡ true
-in-span-known c = sym c.before.in_span.ensures ∙ not-false c.before.in_span.result c.if-not-in_span.false
+in-span-known c = sym c.before.in_span.ensures ∙ c.if-not-in_span.false
 
 pub raised-requires : goal.raised-requires
 raised-requires c = in-span-known (goal.at.raised-requires c).Else-not-in_span

@@ -16,16 +16,14 @@ room = length-replicate 360 +0
 
 pub returns-in-Refused : goal.returns-in-Refused
 returns-in-Refused c =
-    let told = c.in-Refused.given in
     let answered = c in
     let a = answered.args in
-    c.refuse.ensures ∙ sym (row-refused a.q a.table.now lent room answered.row-answer.result answered.row-answer.ensures.result_value told.0.0 told.1)
+    c.refuse.ensures ∙ sym (row-refused a.q a.table.now lent room answered.row-answer.result answered.row-answer.ensures.result_value c.in-Refused.n c.in-Refused.is)
 
 pub returns-in-FrontToBack : goal.returns-in-FrontToBack
 returns-in-FrontToBack c =
-    let told = c.in-FrontToBack.given in
     let kinds = c.kinds_of-kinds in
     let answered = c in
     let a = answered.args in
     c.in_hundredths.ensures
-    ∙ sym (row-shown a.q a.table.now lent room answered.row-answer.result answered.row-answer.ensures.result_value told.0.0 told.1 _ answered.row-answer.ensures.lent_after kinds.result kinds.ensures)
+    ∙ sym (row-shown a.q a.table.now lent room answered.row-answer.result answered.row-answer.ensures.result_value c.in-FrontToBack.field-0 c.in-FrontToBack.is _ answered.row-answer.ensures.lent_after kinds.result kinds.ensures)

@@ -13,14 +13,12 @@ answered c = c.prepare-prepared.ensures.result_value ∙ rw (c.before.before.bla
 
 pub returns-in-Refused : goal.returns-in-Refused
 returns-in-Refused c =
-    let told = c.in-Refused.given in
     let prepared = c in
     let input = prepared.args.input.now in
-    c.refuse.ensures ∙ sym (request-refused input prepared.prepare-prepared.result (answered (goal.at.returns-in-Refused c).After-prepare-prepared) told.0.0 told.1)
+    c.refuse.ensures ∙ sym (request-refused input prepared.prepare-prepared.result (answered (goal.at.returns-in-Refused c).After-prepare-prepared) c.in-Refused.n c.in-Refused.is)
 
 pub returns-in-Ready : goal.returns-in-Ready
 returns-in-Ready c =
-    let told = c.in-Ready.given in
     let prepared = c in
     let input = prepared.args.input.now in
-    rw (request-ready input prepared.prepare-prepared.result (answered (goal.at.returns-in-Ready c).After-prepare-prepared) told.1, ← prepared.blank_table-table.ensures, ← prepared.prepare-prepared.ensures.table_after) c.show_row.ensures
+    rw (request-ready input prepared.prepare-prepared.result (answered (goal.at.returns-in-Ready c).After-prepare-prepared) c.in-Ready.is, ← prepared.blank_table-table.ensures, ← prepared.prepare-prepared.ensures.table_after) c.show_row.ensures
