@@ -36,17 +36,15 @@ shape_of-lent-in-NoLevel c = c.loop-angle.invariant.1
 pub returns-in-NoLevel : goal.returns-in-NoLevel
 unfolding vertical_answer
 returns-in-NoLevel c =
-    let n = c.in-NoLevel.given in
     let number = c in
     let head = number in
     let a = head.args in
     let gain = vertical_gain a.q a.table.now in
     let angle = head.loop-angle.angle in
-    sym (numbers_stop gain angle head.loop-angle.invariant.2 (told-refused number.number_of-number.result (gain angle) (told (goal.at.returns-in-NoLevel c).After-number_of-number) n.0.0 n.1) 181 (omega arith))
+    sym (numbers_stop gain angle head.loop-angle.invariant.2 (told-refused number.number_of-number.result (gain angle) (told (goal.at.returns-in-NoLevel c).After-number_of-number) c.in-NoLevel.n c.in-NoLevel.is) 181 (omega arith))
 
 pub loop-angle-preserved : goal.loop-angle-preserved
 loop-angle-preserved c =
-    let x = c.in-Level.given in
     let number = c in
     let head = number in
     let a = head.args in
@@ -55,8 +53,8 @@ loop-angle-preserved c =
     let lent = head.loop-angle.lent in (
       omega arith,
       rw length-set head.loop-angle.invariant.1,
-      rw (add-one, take-suc-set lent angle x.0.0 (omega arith))
-          (numbers_more gain angle head.loop-angle.invariant.2 (told-level number.number_of-number.result (gain angle) (told (goal.at.loop-angle-preserved c).After-number_of-number) x.0.0 x.1)),
+      rw (add-one, take-suc-set lent angle c.in-Level.x (omega arith))
+          (numbers_more gain angle head.loop-angle.invariant.2 (told-level number.number_of-number.result (gain angle) (told (goal.at.loop-angle-preserved c).After-number_of-number) c.in-Level.x c.in-Level.is)),
     )
 
 pub shape_of-lent : goal.shape_of-lent
