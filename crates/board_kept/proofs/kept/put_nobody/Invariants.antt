@@ -4,7 +4,6 @@ use Prim.Native.Nat.{ℕ, ◌≤◌, ◌-◌}
 use Rattle.board_kept.specs.Steps.{entry}
 use Rattle.board_kept.specs.declared.kept.Entry.{Entry}
 use Rattle.board_kept.proofs.Writing.{written_to}
-use Rattle.board_kept.proofs.kept.put_nobody.Invariants.{none_at}
 use Rattle.board_kept.proofs.kept.put_nobody.Given as goal
 
 abbrev pub none_at : ℕ → Entry

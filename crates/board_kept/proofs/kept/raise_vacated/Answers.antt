@@ -1,6 +1,5 @@
 -- `board_kept::kept::raise_vacated` meets its contract.
 use mathlib.Core.Path.{◌≡◌, sym, ap, ◌∙◌}
-use mathlib.Core.Logic.{⊎_elim}
 use mathlib.Core.List.{List}
 use Prim.Native.Nat.{ℕ, ◌+◌, ◌-◌}
 use lib.ListN.{length, get_or, set}
@@ -9,6 +8,7 @@ use Rattle.board_kept.specs.Steps.{entry, entry_in, better_of, raised_vacated}
 use Rattle.board_kept.proofs.Writing.{written-length, written_none, written-rest, written-more, written_all}
 use native.Mathlib.Omega.{arith}
 use Rattle.board_kept.proofs.kept.raise_vacated.Goals as goal
+use Rattle.board_kept.proofs.kept.raise_vacated.Goals.{then-kept-v, else-kept-v}
 
 pub loop-v-init : goal.loop-v-init
 loop-v-init c =
@@ -43,10 +43,10 @@ loop-v-preserved c =
     let best = c.better-best.ensures ∙ ap (better_of new) old in
     let rest = c.if-kept-v in
     let here : rest.rest ≡ f head.v =
-    ⊎_elim
-    (λ w. w.1 ∙ best ∙ rw (eq-eqb (get_or kept (360 + head.v) 0) a.gone w.0.taken))
-    (λ w. w.1 ∙ old ∙ rw (ne_eqb (get_or kept (360 + head.v) 0) a.gone w.0.left))
-    rest.branch in (
+    elim rest.branch [
+      | then-kept-v w ↦ w.rest-is ∙ best ∙ rw (eq-eqb (get_or kept (360 + head.v) 0) a.gone w.if-kept-v.true)
+      | else-kept-v w ↦ w.rest-is ∙ old ∙ rw (ne_eqb (get_or kept (360 + head.v) 0) a.gone w.if-kept-v.false)
+    ] in (
       c.put_entry.ensures
           ∙ ap (λ (l : List ℕ). set (set l head.v rest.rest.bits) (360 + head.v) rest.rest.id) head.invariant.0
           ∙ written-more f left start.requires.0 head.v (omega arith) here,

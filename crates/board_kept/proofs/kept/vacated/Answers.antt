@@ -1,6 +1,5 @@
 -- `board_kept::kept::vacated` meets its contract.
 use mathlib.Core.Path.{◌≡◌, refl, sym, ap, ◌∙◌}
-use mathlib.Core.Logic.{⊎_elim}
 use mathlib.Core.List.{List, []}
 use Prim.Native.Nat.{ℕ, ◌+◌, ◌<◌, ◌-◌}
 use lib.ListN.{length, get_or, set}
@@ -13,6 +12,7 @@ use Rattle.board_kept.proofs.Nobody.{nobody-entry}
 use native.Mathlib.Omega.{arith}
 use Rattle.board_kept.proofs.kept.vacated.Invariants.{blank}
 use Rattle.board_kept.proofs.kept.vacated.Goals as goal
+use Rattle.board_kept.proofs.kept.vacated.Goals.{then-was-gone, else-was-gone}
 
 -- where the one gone was shown, and elsewhere
 gone-there : (kept : List ℕ) (gone v : ℕ) → v < 360 → get_or kept (360 + v) 0 ≡ gone → entry 0xC1F00000 0 ≡ renewed gone [] kept v
@@ -51,10 +51,10 @@ loop-v-preserved c =
     let id = ap (λ (e : Entry). e.id) was in
     let rest = c.if-was-gone in
     let here : rest.rest ≡ f head.v =
-    ⊎_elim
-    (λ w. w.2 ∙ w.1.ensures ∙ gone-there kept a.gone head.v (omega arith) (sym id ∙ w.0.taken))
-    (λ w. w.1 ∙ was ∙ another-there kept a.gone head.v (λ e. w.0.left (id ∙ e)))
-    rest.branch in (
+    elim rest.branch [
+      | then-was-gone w ↦ w.rest-is ∙ w.nobody-rest.ensures ∙ gone-there kept a.gone head.v (omega arith) (sym id ∙ w.if-was-gone.true)
+      | else-was-gone w ↦ w.rest-is ∙ was ∙ another-there kept a.gone head.v (λ e. w.if-was-gone.false (id ∙ e))
+    ] in (
       c.put_entry.ensures
           ∙ ap (λ (l : List ℕ). set (set l head.v rest.rest.bits) (360 + head.v) rest.rest.id) head.invariant.0
           ∙ written-more f blank refl head.v (omega arith) here,

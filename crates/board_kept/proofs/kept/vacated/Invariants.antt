@@ -5,7 +5,6 @@ use Prim.Native.Nat.{ℕ, ◌≤◌, ◌-◌}
 use lib.ListN.{replicate}
 use Rattle.board_kept.specs.Steps.{renewed}
 use Rattle.board_kept.proofs.Writing.{written_to}
-use Rattle.board_kept.proofs.kept.vacated.Invariants.{blank}
 use Rattle.board_kept.proofs.kept.vacated.Given as goal
 
 abbrev pub blank : List ℕ
