@@ -4,8 +4,7 @@ use mathlib.Core.Path.{◌≡◌, refl}
 use native.Mathlib.Omega.{arith}
 use Rattle.shown.specs.Plate.{kind_coded}
 use Rattle.shown.specs.Rows.{kind_code}
-use Rattle.svg_text.proofs.masts.code_of.Statement.{statement}
-use Rattle.svg_text.proofs.masts.code_of.Tie as tie
+use Rattle.svg_text.proofs.masts.code_of.Goals as goal
 
 above : (n : ℕ) → 2 < n → 2 ≡ kind_code (kind_coded n)
 unfolding kind_code kind_coded
@@ -20,11 +19,8 @@ own (suc zero) h = refl
 own (suc (suc zero)) h = refl
 own (suc (suc (suc n))) h = absurd (omega arith)
 
-returns : tie.Need-returns
-returns c = above c.before.args.kind c.if1.true
+pub returns-then-kind-gt2 : goal.returns-then-kind-gt2
+returns-then-kind-gt2 c = above c.args.kind c.if-kind-gt2.true
 
-returns-2 : tie.Need-returns-2
-returns-2 c = own c.before.args.kind c.if1.false
-
-pub code-of-spec : {M : Type 1} → statement M
-code-of-spec = tie.close (tie.spec returns returns-2)
+pub returns : goal.returns
+returns c = own c.args.kind c.if-kind-gt2.false
