@@ -1,0 +1,22 @@
+-- `board_anew::kept::put_kept` meets its contract.
+use mathlib.Core.Path.{◌≡◌}
+use mathlib.Core.List.{List, ◌++◌}
+use Prim.Native.Nat.{ℕ, ◌+◌, ◌≤◌, ◌-◌}
+use lib.ListN.{length, get_or, drop}
+use lib.Ieee.{Float, binary32, of_bits}
+use Rattle.board_air.specs.Stations.{up_to}
+use Rattle.board_anew.proofs.kept.put_kept.Invariants.{number_of, id_of}
+use Rattle.board_anew.proofs.kept.put_kept.Given as goal
+
+abbrev pub number_of : List ℕ → ℕ → Float
+number_of kept v = of_bits binary32 (get_or kept v 0)
+
+abbrev pub id_of : List ℕ → ℕ → ℕ
+id_of kept v = get_or kept (360 + v) 0
+
+abbrev pub invariant-loop-v : goal.invariant-loop-v
+invariant-loop-v l =
+    (l.numbers ≡ up_to (number_of l.kept) l.v ++ drop l.v l.initial.numbers) × (l.ids ≡ up_to (id_of l.kept) l.v ++ drop l.v l.initial.ids) × (length l.numbers ≡ 360) × (length l.ids ≡ 360) × (l.v ≤ 360)
+
+abbrev pub decreases-loop-v : goal.decreases-loop-v
+decreases-loop-v l = 360 - l.v
