@@ -14,17 +14,17 @@ answered c = c.prepare-prepared.ensures.result_value ∙ rw (c.before.before.bla
 
 pub write_patterns-requires : goal.write_patterns-requires
 write_patterns-requires c =
-    let told = c.in-Ready.given in
+    let told = c.in-Ready.is in
     let prepared = c in
     let input = prepared.args.input.now in
-    rw (prepared.prepare-prepared.ensures.table_after, prepared.blank_table-table.ensures) (ready_own input (request-said input prepared.prepare-prepared.result (answered (goal.at.write_patterns-requires c).After-prepare-prepared) told.1))
+    rw (prepared.prepare-prepared.ensures.table_after, prepared.blank_table-table.ensures) (ready_own input (request-said input prepared.prepare-prepared.result (answered (goal.at.write_patterns-requires c).After-prepare-prepared) told))
 
 pub returns-in-Refused : goal.returns-in-Refused
 returns-in-Refused c =
-    let told = c.in-Refused.given in
+    let told = c.in-Refused.is in
     let prepared = c in
     let a = prepared.args in
-    let d = delivered_refusal _ a.text.now told.0.0 (request-refused a.input.now prepared.prepare-prepared.result (answered (goal.at.returns-in-Refused c).After-prepare-prepared) told.0.0 told.1) in
+    let d = delivered_refusal _ a.text.now c.in-Refused.n (request-refused a.input.now prepared.prepare-prepared.result (answered (goal.at.returns-in-Refused c).After-prepare-prepared) _ told) in
     record {
       answer = d.answered;
       text = d.lent;
@@ -32,8 +32,8 @@ returns-in-Refused c =
 
 pub returns-in-Ready : goal.returns-in-Ready
 returns-in-Ready c =
-    let told = c.in-Ready.given in
+    let told = c.in-Ready.is in
     let prepared = c in
     let input = prepared.args.input.now in
     let d = c.write_patterns.ensures in
-    rw (request-ready input prepared.prepare-prepared.result (answered (goal.at.returns-in-Ready c).After-prepare-prepared) told.1, ← prepared.blank_table-table.ensures, ← prepared.prepare-prepared.ensures.table_after) (d.answered, d.lent)
+    rw (request-ready input prepared.prepare-prepared.result (answered (goal.at.returns-in-Ready c).After-prepare-prepared) told, ← prepared.blank_table-table.ensures, ← prepared.prepare-prepared.ensures.table_after) record { answer = d.answered; text = d.lent }

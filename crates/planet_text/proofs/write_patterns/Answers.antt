@@ -20,14 +20,14 @@ write_vertical-requires c = (c.requires, omega arith)
 
 pub returns-in-Refused : goal.returns-in-Refused
 returns-in-Refused c =
-    let told = c.in-Refused.given in
+    let told = c.in-Refused.is in
     let answered = c in
     let a = answered.args in
-    delivered_refusal _ a.text.now told.0.0 (row-refused a.q a.table.now lent room answered.row-answer.result answered.row-answer.ensures.result_value told.0.0 told.1)
+    delivered_refusal _ a.text.now c.in-Refused.n (row-refused a.q a.table.now lent room answered.row-answer.result answered.row-answer.ensures.result_value _ told)
 
 pub returns-in-FrontToBack : goal.returns-in-FrontToBack
 returns-in-FrontToBack c =
-    let told = c.in-FrontToBack.given in
+    let told = c.in-FrontToBack.is in
     let answered = c in
     let a = answered.args in
-    rw (row-filled a.q a.table.now lent room answered.row-answer.result answered.row-answer.ensures.result_value told.0.0 told.1, ← answered.row-answer.ensures.lent_after) c.write_vertical.ensures
+    rw (row-filled a.q a.table.now lent room answered.row-answer.result answered.row-answer.ensures.result_value _ told, ← answered.row-answer.ensures.lent_after) c.write_vertical.ensures

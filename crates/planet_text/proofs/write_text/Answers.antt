@@ -2,7 +2,6 @@
 use mathlib.Core.Path.{◌≡◌, sym, ap, ◌∙◌}
 use mathlib.Core.Bool.{true, ◌&&◌}
 use native.Mathlib.Omega.{arith}
-use borrow.Author.Tests.{not-false}
 use lib.ListN.{take}
 use Rattle.floats.proofs.Tests.{both}
 use Rattle.answers.specs.Refusals.{SPAN}
@@ -25,13 +24,13 @@ returns-then-not-spans c =
 
 -- both parts are in span
 in_span_lem : (c : Else-not-spans) → let a = c.before.before.before.before.before.before.args in (all_in_span a.horizontal.now && all_in_span a.vertical.now) ≡ true
-in_span_lem c = sym (spans c.before) ∙ not-false _ c.if-not-spans.false
+in_span_lem c = rw (← c.all_in_span.ensures, ← c.all_in_span-2.ensures) c.if-not-spans.false
 
 pub push_text-n-requires : goal.push_text-n-requires
 push_text-n-requires c =
     let start = c in
     let s = both (all_in_span start.args.horizontal.now) (all_in_span start.args.vertical.now) (in_span_lem (goal.at.push_text-n-requires c).Else-not-spans) in
-    (omega arith, ((start.requires.0, s.0), (start.requires.1, s.1)))
+    record { in_bounds = omega arith; horizontal_nonzero = (start.requires.0, s.0); vertical_nonzero = (start.requires.1, s.1) }
 
 pub returns-then-text-n : goal.returns-then-text-n
 returns-then-text-n c =

@@ -12,14 +12,14 @@ write_text-requires c = (c.requires.1, omega arith)
 
 pub returns-in-Refused : goal.returns-in-Refused
 returns-in-Refused c =
-    let told = c.in-Refused.given in
+    let told = c.in-Refused.is in
     let read = c in
     let a = read.args in
-    delivered_refusal _ a.text.now told.0.0 (vertical-refused a.q a.table.now a.horizontal.now _ read.read_vertical-answer.result read.read_vertical-answer.ensures told.0.0 told.1)
+    delivered_refusal _ a.text.now c.in-Refused.n (vertical-refused a.q a.table.now a.horizontal.now _ read.read_vertical-answer.result read.read_vertical-answer.ensures _ told)
 
 pub returns-in-Filled : goal.returns-in-Filled
 returns-in-Filled c =
-    let told = c.in-Filled.given in
+    let told = c.in-Filled.is in
     let read = c in
     let a = read.args in
-    rw (vertical-filled a.q a.table.now a.horizontal.now _ read.read_vertical-answer.result read.read_vertical-answer.ensures told.1) c.write_text.ensures
+    rw (vertical-filled a.q a.table.now a.horizontal.now _ read.read_vertical-answer.result read.read_vertical-answer.ensures told) c.write_text.ensures

@@ -12,27 +12,27 @@ pub returns-then-text-lt8960 : goal.returns-then-text-lt8960
 unfolding output_in
 returns-then-text-lt8960 c =
     let text = c.args.text.now in
-    rw (lt-ltb (length text) 8960 c.if-text-lt8960.true) (wrote_none text 0, (omega arith, refl))
+    rw (lt-ltb (length text) 8960 c.if-text-lt8960.true) record { text = wrote_none text 0; within = (omega arith, refl) }
 
 pub returns-in-Refused : goal.returns-in-Refused
 returns-in-Refused c =
     let pushed = c in
-    let told = pushed.in-Refused.given in
+    let told = pushed.in-Refused.is in
     let asked = pushed in
     let a = asked.args in
-    let said = output_refused a.input.now a.text.now asked.if-text-lt8960.false asked.planet-answer.result _ asked.planet-answer.ensures.answer asked.planet-answer.ensures.text told.0.0 told.1 in
+    let said = output_refused a.input.now a.text.now asked.if-text-lt8960.false asked.planet-answer.result _ asked.planet-answer.ensures.answer asked.planet-answer.ensures.text _ told in
     let w = rw (said.1, said.0) at pushed.push_refusal.ensures in
     record {
       text = w;
-      within = within w (omega (arith, refusal_short told.0.0, ap length said.0));
+      within = within w (omega (arith, refusal_short c.in-Refused.n, ap length said.0));
     }
 
 pub returns-in-Written : goal.returns-in-Written
 returns-in-Written c =
-    let told = c.in-Written.given in
+    let told = c.in-Written.is in
     let asked = c in
     let a = asked.args in
-    let w = output_written a.input.now a.text.now asked.if-text-lt8960.false asked.planet-answer.result _ asked.planet-answer.ensures.answer asked.planet-answer.ensures.text told.0.0 told.1 in
+    let w = output_written a.input.now a.text.now asked.if-text-lt8960.false asked.planet-answer.result _ asked.planet-answer.ensures.answer asked.planet-answer.ensures.text _ told in
     record {
       text = w.0;
       within = within w.0 w.1;
