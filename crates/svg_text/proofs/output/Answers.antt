@@ -11,7 +11,7 @@ pub returns-then-text-lt131072 : goal.returns-then-text-lt131072
 unfolding output_in
 returns-then-text-lt131072 c =
     let text = c.args.text.now in
-    rw (lt-ltb (length text) 131072 c.if-text-lt131072.true) (wrote_none text 0, (omega arith, refl))
+    rw (lt-ltb (length text) 131072 c.if-text-lt131072.true) (record { text = wrote_none text 0; within = (omega arith, refl) })
 
 pub returns-then-input-eq238 : goal.returns-then-input-eq238
 unfolding output_in

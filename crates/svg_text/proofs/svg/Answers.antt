@@ -7,9 +7,8 @@ pub returns-in-Refused : goal.returns-in-Refused
 unfolding svg_in pictured
 returns-in-Refused c =
     let put = c in
-    let told = put.in-Refused.given in
     let read = put in
-    rw (mast_refused read.args.input.now read.read_mast-mast.result read.read_mast-mast.ensures told.0.0 told.1)
+    rw (mast_refused read.args.input.now read.read_mast-mast.result read.read_mast-mast.ensures put.in-Refused.n put.in-Refused.is)
     put.refusal_picture.ensures
 
 pub returns-in-Told : goal.returns-in-Told
@@ -17,7 +16,6 @@ unfolding svg_in pictured
 returns-in-Told c =
     let put = c in
     let captioned = put in
-    let told = captioned.in-Told.given in
     let read = captioned in
-    rw (mast_told read.args.input.now read.read_mast-mast.result read.read_mast-mast.ensures told.0.0 told.1, ← captioned.caption_for-caption.ensures)
+    rw (mast_told read.args.input.now read.read_mast-mast.result read.read_mast-mast.ensures captioned.in-Told.h captioned.in-Told.is, ← captioned.caption_for-caption.ensures)
     put.picture.ensures

@@ -7,9 +7,8 @@ pub returns-in-Refused : goal.returns-in-Refused
 unfolding beside_in
 returns-in-Refused c =
     let put = c in
-    let told = put.in-Refused.given in
     let read = put in
-    rw (mast_refused read.args.second.now read.read_mast-mast.result read.read_mast-mast.ensures told.0.0 told.1)
+    rw (mast_refused read.args.second.now read.read_mast-mast.result read.read_mast-mast.ensures put.in-Refused.n put.in-Refused.is)
     put.refusal_picture.ensures
 
 pub returns-in-Told : goal.returns-in-Told
@@ -17,7 +16,6 @@ unfolding beside_in
 returns-in-Told c =
     let put = c in
     let below = put in
-    let told = below.in-Told.given in
     let read = below in
-    rw (mast_told read.args.second.now read.read_mast-mast.result read.read_mast-mast.ensures told.0.0 told.1, ← below.caption_for-above.ensures, ← below.caption_for-below.ensures)
+    rw (mast_told read.args.second.now read.read_mast-mast.result read.read_mast-mast.ensures below.in-Told.i below.in-Told.is, ← below.caption_for-above.ensures, ← below.caption_for-below.ensures)
     put.pair.ensures

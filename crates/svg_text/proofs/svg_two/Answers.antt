@@ -12,22 +12,20 @@ pub returns-then-text-lt131072 : goal.returns-then-text-lt131072
 unfolding svg_two_in
 returns-then-text-lt131072 c =
     let text = c.args.text.now in
-    rw (lt-ltb (length text) 131072 c.if-text-lt131072.true) (wrote_none text 0, (omega arith, refl))
+    rw (lt-ltb (length text) 131072 c.if-text-lt131072.true) (record { text = wrote_none text 0; within = (omega arith, refl) })
 
 pub returns-in-Refused : goal.returns-in-Refused
 unfolding svg_two_in both_in
 returns-in-Refused c =
     let put = c in
-    let told = put.in-Refused.given in
     let read = put in
-    rw (le-ltb _ _ read.if-text-lt131072.false, mast_refused read.args.first.now read.read_mast-mast.result read.read_mast-mast.ensures told.0.0 told.1)
+    rw (le-ltb _ _ read.if-text-lt131072.false, mast_refused read.args.first.now read.read_mast-mast.result read.read_mast-mast.ensures put.in-Refused.n put.in-Refused.is)
     put.refusal_picture.ensures
 
 pub returns-in-Told : goal.returns-in-Told
 unfolding svg_two_in both_in
 returns-in-Told c =
     let put = c in
-    let told = put.in-Told.given in
     let read = put in
-    rw (le-ltb _ _ read.if-text-lt131072.false, mast_told read.args.first.now read.read_mast-mast.result read.read_mast-mast.ensures told.0.0 told.1)
+    rw (le-ltb _ _ read.if-text-lt131072.false, mast_told read.args.first.now read.read_mast-mast.result read.read_mast-mast.ensures put.in-Told.h put.in-Told.is)
     put.svg_beside.ensures

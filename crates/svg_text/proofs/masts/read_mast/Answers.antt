@@ -10,14 +10,13 @@ use Rattle.svg_text.proofs.masts.read_mast.Goals as goal
 pub returns-in-Refused : goal.returns-in-Refused
 unfolding mast_answer heading_answer and_then
 returns-in-Refused c =
-    let told = c.in-Refused.given in
     let asked = c in
-    sym (plate-refused asked.args.input.now asked.show-shown.result asked.show-shown.ensures told.0.0 told.1)
+    sym (plate-refused asked.args.input.now asked.show-shown.result asked.show-shown.ensures c.in-Refused.n c.in-Refused.is)
 
 pub returns-in-Plate : goal.returns-in-Plate
 returns-in-Plate c =
     let coded = c in
     let asked = coded in
     -- the row's length, of its field's range
-    let len : length asked.show-shown.result.numbers ≡ 360 = sym (length-map asked.show-shown.result.numbers _) ∙ asked.show-shown.type_inv.1.1.1.0.1.0.1 in
+    let len : length asked.show-shown.result.numbers ≡ 360 = asked.show-shown.type_inv.1.1.1.0.1.0.1 in
     plate-drawn asked.args.input.now asked.show-shown.result asked.show-shown.ensures c.in-Plate.is len c.tell.result c.tell.ensures coded.coded-kinds.result coded.coded-kinds.ensures
