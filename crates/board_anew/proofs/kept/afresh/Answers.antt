@@ -34,7 +34,7 @@ loop-k-preserved c =
           (c.raise.ensures
           ∙ ap (λ (kept : List ℕ). kept_by (raised id (take (360 + from - from) (drop from air)) kept)) c.loop-k.invariant.0
           ∙ ap (λ (n : ℕ). kept_by (raised id (take n (drop from air)) (kept_of (stations_to air k)))) all
-          ∙ kept-place air (λ i. (c.shared-slice-known.given i).fits) pre.0 start.args.n pre.1 pre.2 k (omega arith)),
+          ∙ kept-place air (λ i. (c.type_inv.air i).fits) pre.0 start.args.n pre.1 pre.2 k (omega arith)),
       omega arith,
     )
 

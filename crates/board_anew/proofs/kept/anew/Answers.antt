@@ -41,7 +41,7 @@ loop-k-preserved c =
           (c.raise_vacated.ensures
           ∙ ap (λ (left : List ℕ). kept_by (raised_vacated gone kept id (take (360 + from - from) (drop from air)) left)) head.invariant.0
           ∙ ap (λ (m : ℕ). kept_by (raised_vacated gone kept id (take m (drop from air)) (kept_by (renewed gone (stations_to air k) kept)))) all
-          ∙ renewed-place air (λ i. (c.shared-slice-known.given i).fits) pre.0 a.n pre.1 pre.2 gone kept k (omega arith)),
+          ∙ renewed-place air (λ i. (c.type_inv.air i).fits) pre.0 a.n pre.1 pre.2 gone kept k (omega arith)),
       omega arith,
     )
 

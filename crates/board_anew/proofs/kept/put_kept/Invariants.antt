@@ -5,7 +5,6 @@ use Prim.Native.Nat.{ℕ, ◌+◌, ◌≤◌, ◌-◌}
 use lib.ListN.{length, get_or, drop}
 use lib.Ieee.{Float, binary32, of_bits}
 use Rattle.board_air.specs.Stations.{up_to}
-use Rattle.board_anew.proofs.kept.put_kept.Invariants.{number_of, id_of}
 use Rattle.board_anew.proofs.kept.put_kept.Given as goal
 
 abbrev pub number_of : List ℕ → ℕ → Float
