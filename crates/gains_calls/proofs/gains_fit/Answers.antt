@@ -6,13 +6,12 @@ use native.Mathlib.Omega.{arith}
 use borrow.Author.Tests.{eq-eqb, ne_eqb, eqb-true, eqb-false}
 use lib.Dec.{eqb}
 use Rattle.gains_calls.specs.Gains.{gains_fit}
-use Rattle.gains_calls.proofs.gains_fit.Statement.{statement}
-use Rattle.gains_calls.proofs.gains_fit.Tie as tie
+use Rattle.gains_calls.proofs.gains_fit.Goals as goal
 
-returns : tie.Need-returns
+pub returns-then-out-lt4 : goal.returns-then-out-lt4
 unfolding gains_fit
-returns c =
-    let a = c.before.args in
+returns-then-out-lt4 c =
+    let a = c.args in
     let n : a.out ≡ 4 + a.directions → ⊥ = λ e. omega arith in
     rw (ne_eqb a.out (4 + a.directions) n)
 
@@ -23,9 +22,6 @@ four-fewer out n h = by (eqb (out - 4) n) refl
     by true e = let f : out - 4 ≡ n = eqb-true (out - 4) n e in sym (eq-eqb out (4 + n) (omega arith))
     by false e = sym (ne_eqb out (4 + n) (λ f. eqb-false (out - 4) n e (omega arith)))
 
-returns-2 : tie.Need-returns-2
+pub returns : goal.returns
 unfolding gains_fit
-returns-2 c = let a = c.before.args in rw (four-fewer a.out a.directions c.if1.false)
-
-pub gains-fit-spec : {M : Type 1} → statement M
-gains-fit-spec = tie.close (tie.spec returns returns-2)
+returns c = let a = c.args in rw (four-fewer a.out a.directions c.if-out-lt4.false)

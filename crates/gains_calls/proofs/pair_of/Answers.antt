@@ -1,0 +1,20 @@
+-- `pair_of`, by its match.
+use Rattle.antenna.specs.Gain.{gain_answer}
+use Rattle.gains_calls.specs.Gains.{kind_number, gain_words}
+use Rattle.gains_calls.proofs.pair_of.Goals as goal
+
+pub returns-in-Level : goal.returns-in-Level
+unfolding gain_answer kind_number gain_words
+returns-in-Level c = rw (c.in-Level.is, c.bits_of.ensures)
+
+pub returns-in-Floor : goal.returns-in-Floor
+unfolding gain_answer kind_number gain_words
+returns-in-Floor c = rw (c.in-Floor.is, c.bits_of-in-Floor.ensures)
+
+pub returns-in-Silence : goal.returns-in-Silence
+unfolding gain_answer kind_number gain_words
+returns-in-Silence c = rw (c.in-Silence.is, c.bits_of-in-Silence.ensures)
+
+pub returns-in-Refused : goal.returns-in-Refused
+unfolding gain_answer gain_words
+returns-in-Refused c = rw c.in-Refused.is
