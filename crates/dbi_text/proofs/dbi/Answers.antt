@@ -13,22 +13,20 @@ pub returns-then-text-lt12288 : goal.returns-then-text-lt12288
 unfolding text_in
 returns-then-text-lt12288 c =
     let text = c.args.text.now in
-    rw (lt-ltb (length text) 12288 c.if-text-lt12288.true) (wrote_none text 0, (omega arith, refl))
+    rw (lt-ltb (length text) 12288 c.if-text-lt12288.true) (record { text = wrote_none text 0; within = (omega arith, refl) })
 
 pub returns-in-Refused : goal.returns-in-Refused
 returns-in-Refused c =
     let put = c in
-    let told = put.in-Refused.given in
     let asked = put in
     let input = asked.args.input.now in
-    with_length input _ (refused_text_lem input asked.show-shown.result asked.show-shown.ensures told.0.0 told.1) put.push_refusal.ensures
-    (omega (arith, refusal_length told.0.0, put.push_refusal.ensures.after)) (omega arith) (omega arith)
+    let both = with_length input _ (refused_text_lem input asked.show-shown.result asked.show-shown.ensures c.in-Refused.n c.in-Refused.is) put.push_refusal.ensures
+    (omega (arith, refusal_length c.in-Refused.n, put.push_refusal.ensures.after)) (omega arith) (omega arith) in record { text = both.0; within = both.1 }
 
 pub returns-in-Plate : goal.returns-in-Plate
 returns-in-Plate c =
     let put = c in
-    let told = put.in-Plate.given in
     let asked = put in
     let input = asked.args.input.now in
-    with_length input _ (plate_text_lem input asked.show-shown.result asked.show-shown.ensures told.1) put.push_entries.ensures.wrote
-    put.push_entries.ensures.upper_bound (omega arith) (omega arith)
+    let both = with_length input _ (plate_text_lem input asked.show-shown.result asked.show-shown.ensures c.in-Plate.is) put.push_entries.ensures.wrote
+    put.push_entries.ensures.upper_bound (omega arith) (omega arith) in record { text = both.0; within = both.1 }

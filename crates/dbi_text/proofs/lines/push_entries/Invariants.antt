@@ -7,7 +7,6 @@ use Rattle.hundredths.specs.Raised.{lowered}
 use Rattle.shown.specs.InOrder.{up_to}
 use Rattle.shown.specs.Plate.{Entry, kind_coded}
 use Rattle.dbi_text.specs.Dbi.{Wrote, lines_from}
-use Rattle.dbi_text.proofs.lines.push_entries.Invariants.{entry_in}
 use Rattle.dbi_text.proofs.lines.push_entries.Given as goal
 
 abbrev pub entry_in : List ℕ → List ℕ → ℕ → Entry
