@@ -1,0 +1,100 @@
+-- `board::join` meets its contract.
+use mathlib.Core.Path.{◌≡◌, sym, ap, ◌∙◌}
+use mathlib.Core.List.{List}
+use Prim.Native.Nat.{ℕ}
+use native.Mathlib.Omega.{arith}
+use lib.ListN.{length, length-map, length-take, length-drop}
+use lib.Seq.{length-take-le}
+use lib.Ieee.{binary32, to_bits}
+use borrow.Author.Tests.{lt-ltb}
+use Rattle.board_air.specs.Words.{air_size, air_in, kept_in, stations_in, board_ok}
+use Rattle.board_kept.specs.Steps.{kept_by, raised}
+use Rattle.board.specs.Calls.{join_answer, join_leaves}
+use Rattle.board_anew.proofs.Answers.{MayJoin}
+use Rattle.board.proofs.Boards.{Whole, whole}
+use Rattle.board_anew.proofs.Parts.{front_length, front_part, front_put}
+use Rattle.board.proofs.Changes.{joining, join-left}
+use Rattle.board.proofs.join.Goals as goal
+use Rattle.board.proofs.join.Goals.{Else-number-gt0, Start}
+
+abbrev start : Else-number-gt0 → Start
+start c = c.before.before.before.before.before
+
+-- past the refusals
+accepted : (c : Else-number-gt0) → join_answer (start c).args.board.now (start c).args.id (start c).args.row.now ≡ 0
+accepted c = let zero : c.before.join_refusal-number.result ≡ 0 = omega arith in sym c.before.join_refusal-number.ensures ∙ zero
+
+may : (c : Else-number-gt0) → MayJoin (board_ok (start c).args.board.now) (stations_in (start c).args.board.now) (start c).args.id (start c).args.row.now
+may c = joining (start c).args.board.now (start c).args.id (start c).args.row.now (accepted c)
+
+known : (c : Else-number-gt0) → Whole (start c).args.board.now
+known c = whole (start c).args.board.now (may c).well-formed
+
+air_size_lem : (c : Else-number-gt0) → length (air_in (start c).args.board.now) ≡ air_size
+air_size_lem c = length-take-le air_size (start c).args.board.now (omega (arith, (known c).size))
+
+pub returns-then-number-gt0 : goal.returns-then-number-gt0
+unfolding join_leaves
+returns-then-number-gt0 c = record {
+  value = c.join_refusal-number.ensures;
+  board_after = rw (← c.join_refusal-number.ensures, lt-ltb _ _ c.if-number-gt0.true);
+}
+
+pub slice_bounds-enter-end : goal.slice_bounds-enter-end
+slice_bounds-enter-end c = omega (arith, (known (goal.at.slice_bounds-enter-end c).Else-number-gt0).size)
+
+pub slice_bounds-enter-end-2 : goal.slice_bounds-enter-end-2
+slice_bounds-enter-end-2 c = sym (air_size_lem (goal.at.slice_bounds-enter-end-2 c).Else-number-gt0)
+
+pub enter-requires : goal.enter-requires
+enter-requires c = ((known (goal.at.enter-requires c).Else-number-gt0).air, (may (goal.at.enter-requires c).Else-number-gt0).room, (may (goal.at.enter-requires c).Else-number-gt0).whole)
+
+pub row_bits-bits-requires : goal.row_bits-bits-requires
+row_bits-bits-requires c = (may (goal.at.row_bits-bits-requires c).Else-number-gt0).whole
+
+pub slice_bounds-raise-count : goal.slice_bounds-raise-count
+slice_bounds-raise-count c =
+    let e = c in
+    let entered = c.enter in
+    omega (arith, front_length (start e).args.board.now entered.ensures (entered.auto.air ∙ air_size_lem (goal.at.slice_bounds-raise-count c).Else-number-gt0) (known (goal.at.slice_bounds-raise-count c).Else-number-gt0).size)
+
+pub slice_bounds-raise-start : goal.slice_bounds-raise-start
+slice_bounds-raise-start c =
+    let e = c in
+    let entered = c.enter in
+    omega (arith, front_length (start e).args.board.now entered.ensures (entered.auto.air ∙ air_size_lem (goal.at.slice_bounds-raise-start c).Else-number-gt0) (known (goal.at.slice_bounds-raise-start c).Else-number-gt0).size)
+
+pub slice_bounds-raise-end : goal.slice_bounds-raise-end
+slice_bounds-raise-end c =
+    let e = c in
+    let entered = c.enter in
+    omega (arith, front_length (start e).args.board.now entered.ensures (entered.auto.air ∙ air_size_lem (goal.at.slice_bounds-raise-end c).Else-number-gt0) (known (goal.at.slice_bounds-raise-end c).Else-number-gt0).size)
+
+pub slice_bounds-raise-end-2 : goal.slice_bounds-raise-end-2
+slice_bounds-raise-end-2 c =
+    let e = c in
+    sym (ap length c.row_bits-bits.ensures ∙ length-map (start e).args.row.now (to_bits binary32) ∙ (may (goal.at.slice_bounds-raise-end-2 c).Else-number-gt0).whole)
+
+pub raise-requires : goal.raise-requires
+raise-requires c =
+    let e = c in
+    let entered = c.enter in
+    let n = front_length (start e).args.board.now entered.ensures (entered.auto.air ∙ air_size_lem (goal.at.raise-requires c).Else-number-gt0) (known (goal.at.raise-requires c).Else-number-gt0).size in
+    (simp (length-take, length-drop) (omega arith), ap length c.row_bits-bits.ensures ∙ length-map (start e).args.row.now (to_bits binary32) ∙ (may (goal.at.raise-requires c).Else-number-gt0).whole)
+
+pub returns : goal.returns
+unfolding join_leaves
+returns c =
+    let e = c in
+    let a = (start e).args in
+    let words = a.board.now in
+    let entered = c.enter in
+    let n = entered.auto.air ∙ air_size_lem (goal.at.returns c).Else-number-gt0 in
+    let bits = c.row_bits-bits in record {
+      value = sym (accepted (goal.at.returns c).Else-number-gt0);
+      board_after = front_put words entered.ensures n
+          (c.raise.ensures
+          ∙ ap (λ (l : List ℕ). kept_by (raised a.id bits.result l)) (front_part words entered.ensures n)
+          ∙ ap (λ (l : List ℕ). kept_by (raised a.id l (kept_in words))) bits.ensures)
+          ∙ join-left words a.id a.row.now (accepted (goal.at.returns c).Else-number-gt0) (λ i. (c.slice-known.given i).fits) (λ i. c.type_inv.row i);
+    }

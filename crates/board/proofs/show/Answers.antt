@@ -1,0 +1,66 @@
+-- `board::show` meets its contract.
+use mathlib.Core.Path.{◌≡◌, sym, ap, ◌∙◌}
+use mathlib.Core.List.{List}
+use Prim.Native.Nat.{ℕ, ◌+◌}
+use lib.ListN.{length, get_or, length-take, length-drop}
+use lib.Ieee.{binary32, of_bits}
+use borrow.Author.Tests.{lt-ltb}
+use Rattle.board_air.specs.Stations.{up_to}
+use Rattle.board_air.specs.Words.{stations_in}
+use Rattle.board.specs.Calls.{show_answer, show_numbers, show_ids}
+use Rattle.board.proofs.Boards.{stations_on_air}
+use Rattle.board_anew.proofs.Parts.{rest_part}
+use Rattle.board_anew.proofs.Keeping.{numbers-kept, ids_kept}
+use Rattle.board.proofs.Changes.{Shows, shows}
+use native.Mathlib.Omega.{arith}
+use Rattle.board.proofs.show.Goals as goal
+use Rattle.board.proofs.show.Goals.{Else-number-gt0, Start}
+
+abbrev start : Else-number-gt0 → Start
+start c = c.before.before.before.before.before
+
+-- past the refusals
+accepted : (c : Else-number-gt0) → show_answer (start c).args.board.now (length (start c).args.numbers.now) (length (start c).args.ids.now) ≡ 0
+accepted c = let zero : c.before.show_refusal-number.result ≡ 0 = omega arith in sym c.before.show_refusal-number.ensures ∙ zero
+
+known : (c : Else-number-gt0) → Shows (start c).args.board.now (length (start c).args.numbers.now) (length (start c).args.ids.now)
+known c = shows (start c).args.board.now (length (start c).args.numbers.now) (length (start c).args.ids.now) (accepted c)
+
+pub returns-then-number-gt0 : goal.returns-then-number-gt0
+unfolding show_numbers show_ids
+returns-then-number-gt0 c =
+    let number = c.show_refusal-number.ensures in
+    (number, (rw (← number, lt-ltb _ _ c.if-number-gt0.true), rw (← number, lt-ltb _ _ c.if-number-gt0.true)))
+
+pub slice_bounds-put_kept-count : goal.slice_bounds-put_kept-count
+slice_bounds-put_kept-count c = omega (arith, (known (goal.at.slice_bounds-put_kept-count c).Else-number-gt0).board.size)
+
+pub slice_bounds-put_kept-start : goal.slice_bounds-put_kept-start
+slice_bounds-put_kept-start c = omega (arith, (known (goal.at.slice_bounds-put_kept-start c).Else-number-gt0).board.size)
+
+pub slice_bounds-put_kept-end : goal.slice_bounds-put_kept-end
+slice_bounds-put_kept-end c = omega (arith, (known (goal.at.slice_bounds-put_kept-end c).Else-number-gt0).board.size)
+
+pub put_kept-requires : goal.put_kept-requires
+put_kept-requires c =
+    let k = known (goal.at.put_kept-requires c).Else-number-gt0 in
+    (simp (length-take, length-drop) (omega (arith, k.board.size)), k.whole.0, k.whole.1)
+
+pub returns : goal.returns
+unfolding show_numbers show_ids
+returns c =
+    let e = c in
+    let words = (start e).args.board.now in
+    let put = c.put_kept.ensures in
+    let w = (known (goal.at.returns c).Else-number-gt0).board in
+    let kept = rest_part 5777 words ∙ w.kept in
+    let ss = stations_in words in (
+      sym (accepted (goal.at.returns c).Else-number-gt0),
+      (
+        rw (accepted (goal.at.returns c).Else-number-gt0)
+            (put.0
+            ∙ ap (λ (l : List ℕ). up_to (λ (v : ℕ). of_bits binary32 (get_or l v 0)) 360) kept
+            ∙ numbers-kept ss (stations_on_air words (λ i. (c.type_inv.board i).fits) w)),
+        rw (accepted (goal.at.returns c).Else-number-gt0) (put.1 ∙ ap (λ (l : List ℕ). up_to (λ (v : ℕ). get_or l (360 + v) 0) 360) kept ∙ ids_kept ss),
+      ),
+    )
