@@ -15,7 +15,7 @@ pub returns-then-text-lt2048 : goal.returns-then-text-lt2048
 unfolding compare_in
 returns-then-text-lt2048 c =
     let text = c.args.text.now in
-    rw (lt-ltb (length text) 2048 c.if-text-lt2048.true) (wrote_none text 0, (omega arith, refl))
+    rw (lt-ltb (length text) 2048 c.if-text-lt2048.true) (record { text = wrote_none text 0; within = (omega arith, refl) })
 
 pub push_bytes-requires : goal.push_bytes-requires
 push_bytes-requires c = omega (arith, c.if-text-lt2048.false)
@@ -28,7 +28,8 @@ unfolding compare_in compare_text quoted
 returns-then-base-gt359 c =
     let put = c in
     let room = c.if-text-lt2048.false in
-    rw (le-ltb _ _ room, lt-ltb _ _ c.if-base-gt359.true) (with_length (upto 540 put.push_bytes.ensures (lit≤ tt)) room put.push_bytes.auto.out)
+    let p = with_length (upto 540 put.push_bytes.ensures (lit≤ tt)) room put.push_bytes.auto.out in
+    rw (le-ltb _ _ room, lt-ltb _ _ c.if-base-gt359.true) (record { text = p.0; within = p.1 })
 
 pub push_answers-requires : goal.push_answers-requires
 push_answers-requires c = (omega (arith, c.if-text-lt2048.false), omega (arith, c.if-base-gt359.false))
@@ -41,4 +42,5 @@ unfolding compare_in compare_text
 returns c =
     let put = c in
     let room = c.if-text-lt2048.false in
-    rw (le-ltb _ _ room, le-ltb _ _ c.if-base-gt359.false, ← c.show-a.ensures, ← c.show-b.ensures) (with_length put.push_answers.ensures room put.push_answers.auto.out)
+    let p = with_length put.push_answers.ensures room put.push_answers.auto.out in
+    rw (le-ltb _ _ room, le-ltb _ _ c.if-base-gt359.false, ← c.show-a.ensures, ← c.show-b.ensures) (record { text = p.0; within = p.1 })

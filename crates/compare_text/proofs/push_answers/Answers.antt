@@ -30,7 +30,7 @@ unfolding answers_text shown_answer said
 returns-in-Refused-b c =
     let second = c in
     let first = second in
-    rw (c.in-Refused-b.is, c.in-Refused-b.is)
+    rw (c.in-Refused.is, c.in-Refused-b.is)
     (more 540 (next-to first.push_refused-next.ensures second.push_refused.ensures (omega (arith, first.push_refused-next.ensures.short, c.requires.0))) (lit≤ tt))
 
 pub shape_of-out-in-Plate-b : goal.shape_of-out-in-Plate-b
@@ -38,18 +38,18 @@ shape_of-out-in-Plate-b c = c.push_refused-in-Plate-b.auto.out
 
 pub returns-in-Plate-b : goal.returns-in-Plate-b
 unfolding answers_text shown_answer said
-returns-in-Plate-b c = rw (c.in-Plate-b.is, c.in-Plate-b.is) (more 540 c.push_refused-in-Plate-b.ensures (lit≤ tt))
+returns-in-Plate-b c = rw (c.in-Refused.is, c.in-Plate-b.is) (more 540 c.push_refused-in-Plate-b.ensures (lit≤ tt))
 
 pub shape_of-out-in-Refused-b-2 : goal.shape_of-out-in-Refused-b-2
 shape_of-out-in-Refused-b-2 c = c.push_refused-in-Refused-b-2.auto.out
 
 pub returns-in-Refused-b-2 : goal.returns-in-Refused-b-2
 unfolding answers_text shown_answer said
-returns-in-Refused-b-2 c = rw (c.in-Refused-b-2.is, c.in-Refused-b-2.is) (more 540 c.push_refused-in-Refused-b-2.ensures (lit≤ tt))
+returns-in-Refused-b-2 c = rw (c.in-Plate.is, c.in-Refused-b-2.is) (more 540 c.push_refused-in-Refused-b-2.ensures (lit≤ tt))
 
 pub shape_of-out-in-Plate-b-2 : goal.shape_of-out-in-Plate-b-2
 shape_of-out-in-Plate-b-2 c = c.push_plates.auto.out
 
 pub returns-in-Plate-b-2 : goal.returns-in-Plate-b-2
 unfolding answers_text shown_answer said
-returns-in-Plate-b-2 c = rw (c.in-Plate-b-2.is, c.in-Plate-b-2.is) c.push_plates.ensures
+returns-in-Plate-b-2 c = rw (c.in-Plate.is, c.in-Plate-b-2.is) c.push_plates.ensures
