@@ -2,7 +2,7 @@
 use mathlib.Core.Path.{◌≡◌, sym, ◌∙◌}
 use Prim.Native.Nat.{◌+◌, ◌%◌}
 use native.Mathlib.Omega.{arith}
-use borrow.Author.Tests.{not-false, eqb-true}
+use borrow.Author.Tests.{eqb-true}
 use lib.ListN.{length}
 use lib.Seq.{take_all}
 use Rattle.floats.proofs.Tests.{both}
@@ -19,7 +19,7 @@ returns-then-not-gains_fit c = rw (← c.gains_fit.ensures, c.if-not-gains_fit.t
 fits : (c : Else-not-gains_fit) → let a = c.before.before.before.before.before.args in (length a.out.now ≡ 4 + length a.directions.now) × (length a.parm.now ≡ 20) × (length a.directions.now % 2 ≡ 0)
 unfolding gains_fit
 fits c =
-    let pairs = both _ _ (sym c.before.gains_fit.ensures ∙ not-false _ c.if-not-gains_fit.false) in
+    let pairs = both _ _ (sym c.before.gains_fit.ensures ∙ c.if-not-gains_fit.false) in
     let sizes = both _ _ pairs.0 in
     (eqb-true _ _ sizes.0, eqb-true _ _ sizes.1, eqb-true _ _ pairs.1)
 

@@ -21,15 +21,15 @@ put_gains-requires c =
     let found = c in
     let s = found in
     let a = s.args in
-    let told = found.in-Ready.given in
-    let h = sym s.antinit2-s.ensures.result_value ∙ ready s.antinit2-s.result told.0.0 told.1 in
-    (search rules, ap (own_table s.antinit2-s.result.antenna) s.antinit2-s.ensures.lent_after.0 ∙ own_after_set_up a.parm a.table.now h)
+    let told = found.in-Ready.is in
+    let h = sym s.antinit2-s.ensures.result_value ∙ ready s.antinit2-s.result _ told in
+    (search rules, ap (own_table s.antinit2-s.result.antenna) s.antinit2-s.ensures.lent_after ∙ own_after_set_up a.parm a.table.now h)
 
 pub returns-in-Refused : goal.returns-in-Refused
 unfolding gains_left
 returns-in-Refused c =
     let s = c in
-    rw (sym s.antinit2-s.ensures.result_value ∙ turned_away s.antinit2-s.result c.answer.given.0.0 c.in-Refused.is)
+    rw (sym s.antinit2-s.ensures.result_value ∙ turned_away s.antinit2-s.result _ c.in-Refused.is)
 
 filled : (out head gains : List ℕ) → length head ≡ 4 → length out ≡ 4 + length gains → laid (laid out 0 head) 4 gains ≡ head ++ gains
 filled out head gains h e =
@@ -44,8 +44,8 @@ returns-in-Ready c =
     let start = s in
     let a = start.args in
     let ant = s.antinit2-s.result.antenna in
-    let readings = search.answer-in-Ready-1.given.0.0 in
-    let t = s.antinit2-s.new.1.0 in
+    let readings = c.in-Ready.readings in
+    let t = s.antinit2-s.new.lent in
     let n = gains_length ant t a.giso a.directions.now (length a.directions.now / 2) in
-    rw (gains.put_gains.ensures, search.put_search.ensures, sym s.antinit2-s.ensures.result_value ∙ ready s.antinit2-s.result readings search.in-Ready.is, ← s.antinit2-s.ensures.lent_after.0)
+    rw (gains.put_gains.ensures, search.put_search.ensures, sym s.antinit2-s.ensures.result_value ∙ ready s.antinit2-s.result readings search.in-Ready.is, ← s.antinit2-s.ensures.lent_after)
     (ap (left 0) (filled a.out.now (search_words readings ant.peak) (gains_to ant t a.giso a.directions.now (length a.directions.now / 2)) (four-words readings ant.peak) (omega (arith, n, start.requires))))
