@@ -43,7 +43,7 @@ one-call {ss} k (leave id) = rw (one_answer k (leave id), (words_of_lem k).1) (u
 run-words : {ss : List Station} {cs : List Call} → OnAir ss → Run cs → (leaves_all (words_of ss) cs ≡ words_of (after_all ss cs)) × OnAir (after_all ss cs)
 unfolding leaves_all after_all
 run-words k start = (refl, k)
-run-words {ss} k (next {c} {cs} m r) = rw (one-call k c) (run-words (on_air_after c m k) r)
+run-words {ss} k (next {c} {cs} m r) = rw (one-call k c) (run-words {ss = after ss c} (on_air_after c m k) r)
 
 empty_air : OnAir []
 unfolding stations_ok

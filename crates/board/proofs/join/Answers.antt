@@ -15,23 +15,20 @@ use Rattle.board.proofs.Boards.{Whole, whole}
 use Rattle.board_anew.proofs.Parts.{front_length, front_part, front_put}
 use Rattle.board.proofs.Changes.{joining, join-left}
 use Rattle.board.proofs.join.Goals as goal
-use Rattle.board.proofs.join.Goals.{Else-number-gt0, Start}
-
-abbrev start : Else-number-gt0 → Start
-start c = c.before.before.before.before.before
+use Rattle.board.proofs.join.Goals.{Else-number-gt0}
 
 -- past the refusals
-accepted : (c : Else-number-gt0) → join_answer (start c).args.board.now (start c).args.id (start c).args.row.now ≡ 0
+accepted : (c : Else-number-gt0) → join_answer c.args.board.now c.args.id c.args.row.now ≡ 0
 accepted c = let zero : c.before.join_refusal-number.result ≡ 0 = omega arith in sym c.before.join_refusal-number.ensures ∙ zero
 
-may : (c : Else-number-gt0) → MayJoin (board_ok (start c).args.board.now) (stations_in (start c).args.board.now) (start c).args.id (start c).args.row.now
-may c = joining (start c).args.board.now (start c).args.id (start c).args.row.now (accepted c)
+may : (c : Else-number-gt0) → MayJoin (board_ok c.args.board.now) (stations_in c.args.board.now) c.args.id c.args.row.now
+may c = joining c.args.board.now c.args.id c.args.row.now (accepted c)
 
-known : (c : Else-number-gt0) → Whole (start c).args.board.now
-known c = whole (start c).args.board.now (may c).well-formed
+known : (c : Else-number-gt0) → Whole c.args.board.now
+known c = whole c.args.board.now (may c).good
 
-air_size_lem : (c : Else-number-gt0) → length (air_in (start c).args.board.now) ≡ air_size
-air_size_lem c = length-take-le air_size (start c).args.board.now (omega (arith, (known c).size))
+air_size_lem : (c : Else-number-gt0) → length (air_in c.args.board.now) ≡ air_size
+air_size_lem c = length-take-le air_size c.args.board.now (omega (arith, (known c).size))
 
 pub returns-then-number-gt0 : goal.returns-then-number-gt0
 unfolding join_leaves
@@ -54,39 +51,39 @@ row_bits-bits-requires c = (may (goal.at.row_bits-bits-requires c).Else-number-g
 
 pub slice_bounds-raise-count : goal.slice_bounds-raise-count
 slice_bounds-raise-count c =
-    let e = c in
+    let e = (goal.at.slice_bounds-raise-count c).Else-number-gt0 in
     let entered = c.enter in
-    omega (arith, front_length (start e).args.board.now entered.ensures (entered.auto.air ∙ air_size_lem (goal.at.slice_bounds-raise-count c).Else-number-gt0) (known (goal.at.slice_bounds-raise-count c).Else-number-gt0).size)
+    omega (arith, front_length e.args.board.now entered.ensures (entered.auto.air ∙ air_size_lem (goal.at.slice_bounds-raise-count c).Else-number-gt0) (known (goal.at.slice_bounds-raise-count c).Else-number-gt0).size)
 
 pub slice_bounds-raise-start : goal.slice_bounds-raise-start
 slice_bounds-raise-start c =
-    let e = c in
+    let e = (goal.at.slice_bounds-raise-start c).Else-number-gt0 in
     let entered = c.enter in
-    omega (arith, front_length (start e).args.board.now entered.ensures (entered.auto.air ∙ air_size_lem (goal.at.slice_bounds-raise-start c).Else-number-gt0) (known (goal.at.slice_bounds-raise-start c).Else-number-gt0).size)
+    omega (arith, front_length e.args.board.now entered.ensures (entered.auto.air ∙ air_size_lem (goal.at.slice_bounds-raise-start c).Else-number-gt0) (known (goal.at.slice_bounds-raise-start c).Else-number-gt0).size)
 
 pub slice_bounds-raise-end : goal.slice_bounds-raise-end
 slice_bounds-raise-end c =
-    let e = c in
+    let e = (goal.at.slice_bounds-raise-end c).Else-number-gt0 in
     let entered = c.enter in
-    omega (arith, front_length (start e).args.board.now entered.ensures (entered.auto.air ∙ air_size_lem (goal.at.slice_bounds-raise-end c).Else-number-gt0) (known (goal.at.slice_bounds-raise-end c).Else-number-gt0).size)
+    omega (arith, front_length e.args.board.now entered.ensures (entered.auto.air ∙ air_size_lem (goal.at.slice_bounds-raise-end c).Else-number-gt0) (known (goal.at.slice_bounds-raise-end c).Else-number-gt0).size)
 
 pub slice_bounds-raise-end-2 : goal.slice_bounds-raise-end-2
 slice_bounds-raise-end-2 c =
-    let e = c in
-    sym (ap length c.row_bits-bits.ensures ∙ length-map (start e).args.row.now (to_bits binary32) ∙ (may (goal.at.slice_bounds-raise-end-2 c).Else-number-gt0).whole)
+    let e = (goal.at.slice_bounds-raise-end-2 c).Else-number-gt0 in
+    sym (ap length c.row_bits-bits.ensures ∙ length-map e.args.row.now (to_bits binary32) ∙ (may (goal.at.slice_bounds-raise-end-2 c).Else-number-gt0).whole)
 
 pub raise-requires : goal.raise-requires
 raise-requires c =
-    let e = c in
+    let e = (goal.at.raise-requires c).Else-number-gt0 in
     let entered = c.enter in
-    let n = front_length (start e).args.board.now entered.ensures (entered.auto.air ∙ air_size_lem (goal.at.raise-requires c).Else-number-gt0) (known (goal.at.raise-requires c).Else-number-gt0).size in
-    (simp (length-take, length-drop) (omega arith), ap length c.row_bits-bits.ensures ∙ length-map (start e).args.row.now (to_bits binary32) ∙ (may (goal.at.raise-requires c).Else-number-gt0).whole)
+    let n = front_length e.args.board.now entered.ensures (entered.auto.air ∙ air_size_lem (goal.at.raise-requires c).Else-number-gt0) (known (goal.at.raise-requires c).Else-number-gt0).size in
+    (simp (length-take, length-drop) (omega arith), ap length c.row_bits-bits.ensures ∙ length-map e.args.row.now (to_bits binary32) ∙ (may (goal.at.raise-requires c).Else-number-gt0).whole)
 
 pub returns : goal.returns
 unfolding join_leaves
 returns c =
-    let e = c in
-    let a = (start e).args in
+    let e = (goal.at.returns c).Else-number-gt0 in
+    let a = e.args in
     let words = a.board.now in
     let entered = c.enter in
     let n = entered.auto.air ∙ air_size_lem (goal.at.returns c).Else-number-gt0 in
@@ -96,5 +93,5 @@ returns c =
           (c.raise.ensures
           ∙ ap (λ (l : List ℕ). kept_by (raised a.id bits.result l)) (front_part words entered.ensures n)
           ∙ ap (λ (l : List ℕ). kept_by (raised a.id l (kept_in words))) bits.ensures)
-          ∙ join-left words a.id a.row.now (accepted (goal.at.returns c).Else-number-gt0) (λ i. (c.slice-known.given i).fits) (λ i. c.type_inv.row i);
+          ∙ join-left words a.id a.row.now (accepted (goal.at.returns c).Else-number-gt0) (λ i. (c.slice_known-1.given i).fits) (λ i. c.type_inv.row i);
     }

@@ -14,23 +14,20 @@ use Rattle.board_anew.proofs.Keeping.{numbers-kept, ids_kept}
 use Rattle.board.proofs.Changes.{Shows, shows}
 use native.Mathlib.Omega.{arith}
 use Rattle.board.proofs.show.Goals as goal
-use Rattle.board.proofs.show.Goals.{Else-number-gt0, Start}
-
-abbrev start : Else-number-gt0 → Start
-start c = c.before.before.before.before.before
+use Rattle.board.proofs.show.Goals.{Else-number-gt0}
 
 -- past the refusals
-accepted : (c : Else-number-gt0) → show_answer (start c).args.board.now (length (start c).args.numbers.now) (length (start c).args.ids.now) ≡ 0
+accepted : (c : Else-number-gt0) → show_answer c.args.board.now (length c.args.numbers.now) (length c.args.ids.now) ≡ 0
 accepted c = let zero : c.before.show_refusal-number.result ≡ 0 = omega arith in sym c.before.show_refusal-number.ensures ∙ zero
 
-known : (c : Else-number-gt0) → Shows (start c).args.board.now (length (start c).args.numbers.now) (length (start c).args.ids.now)
-known c = shows (start c).args.board.now (length (start c).args.numbers.now) (length (start c).args.ids.now) (accepted c)
+known : (c : Else-number-gt0) → Shows c.args.board.now (length c.args.numbers.now) (length c.args.ids.now)
+known c = shows c.args.board.now (length c.args.numbers.now) (length c.args.ids.now) (accepted c)
 
 pub returns-then-number-gt0 : goal.returns-then-number-gt0
 unfolding show_numbers show_ids
 returns-then-number-gt0 c =
     let number = c.show_refusal-number.ensures in
-    (number, (rw (← number, lt-ltb _ _ c.if-number-gt0.true), rw (← number, lt-ltb _ _ c.if-number-gt0.true)))
+    record { value = number; numbers_after = rw (← number, lt-ltb _ _ c.if-number-gt0.true); ids_after = rw (← number, lt-ltb _ _ c.if-number-gt0.true) }
 
 pub slice_bounds-put_kept-count : goal.slice_bounds-put_kept-count
 slice_bounds-put_kept-count c = omega (arith, (known (goal.at.slice_bounds-put_kept-count c).Else-number-gt0).board.size)
@@ -49,18 +46,17 @@ put_kept-requires c =
 pub returns : goal.returns
 unfolding show_numbers show_ids
 returns c =
-    let e = c in
-    let words = (start e).args.board.now in
+    let e = (goal.at.returns c).Else-number-gt0 in
+    let words = e.args.board.now in
     let put = c.put_kept.ensures in
     let w = (known (goal.at.returns c).Else-number-gt0).board in
     let kept = rest_part 5777 words ∙ w.kept in
-    let ss = stations_in words in (
-      sym (accepted (goal.at.returns c).Else-number-gt0),
-      (
-        rw (accepted (goal.at.returns c).Else-number-gt0)
-            (put.0
-            ∙ ap (λ (l : List ℕ). up_to (λ (v : ℕ). of_bits binary32 (get_or l v 0)) 360) kept
-            ∙ numbers-kept ss (stations_on_air words (λ i. (c.type_inv.board i).fits) w)),
-        rw (accepted (goal.at.returns c).Else-number-gt0) (put.1 ∙ ap (λ (l : List ℕ). up_to (λ (v : ℕ). get_or l (360 + v) 0) 360) kept ∙ ids_kept ss),
-      ),
-    )
+    let ss = stations_in words in record {
+      value = sym (accepted (goal.at.returns c).Else-number-gt0);
+      numbers_after =
+          rw (accepted (goal.at.returns c).Else-number-gt0)
+          (put.numbers_after
+          ∙ ap (λ (l : List ℕ). up_to (λ (v : ℕ). of_bits binary32 (get_or l v 0)) 360) kept
+          ∙ numbers-kept ss (stations_on_air words (λ i. (c.type_inv.board i).fits) w));
+      ids_after = rw (accepted (goal.at.returns c).Else-number-gt0) (put.ids_after ∙ ap (λ (l : List ℕ). up_to (λ (v : ℕ). get_or l (360 + v) 0) 360) kept ∙ ids_kept ss);
+    }

@@ -14,7 +14,7 @@ use Rattle.board.proofs.accepted.board_ok.Goals.{Else-not-air_ok}
 
 -- past the second test the air is a run's
 air-known : (c : Else-not-air_ok) → air_ok (air_in c.before.before.before.before.before.args.board.now) ≡ true
-air-known c = sym c.before.air_ok.ensures ∙ not-false c.before.air_ok.result c.if-not-air_ok.false
+air-known c = sym c.before.air_ok.ensures ∙ c.if-not-air_ok.false
 
 pub returns-then-board-ne-WORDS : goal.returns-then-board-ne-WORDS
 unfolding board_ok

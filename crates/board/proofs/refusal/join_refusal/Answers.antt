@@ -1,6 +1,9 @@
 -- `board::refusal::join_refusal` meets its contract.
-use mathlib.Core.Path.{sym, ◌∙◌}
-use mathlib.Core.Bool.{◌&&◌}
+use mathlib.Core.Path.{◌≡◌, sym, ◌∙◌}
+use mathlib.Core.Bool.{Bool, true, ◌&&◌}
+use mathlib.Core.List.{List}
+use Prim.Native.Nat.{ℕ}
+use Rattle.board_air.specs.Words.{board_ok}
 use lib.ListN.{length}
 use lib.Seq.{length-take-le}
 use lib.Dec.{eqb}
@@ -15,12 +18,11 @@ use Rattle.board.proofs.refusal.join_refusal.Goals as goal
 use Rattle.board.proofs.refusal.join_refusal.Goals.{After-shared_slice_known-3-1}
 
 -- past refusal 8 the words are a board's
+of-known : (words : List ℕ) (r full : Bool) → r ≡ board_ok words → (r && full) ≡ true → Whole words
+of-known words r full e h = whole words (sym e ∙ (both r full h).0)
+
 known : (c : After-shared_slice_known-3-1) → Whole c.before.before.before.before.before.before.before.args.board.now
-known c =
-    let space = c.before.before.board_ok.result in
-    let full = eqb (length c.before.before.before.before.before.before.before.args.row.now) 360 in
-    whole c.before.before.before.before.before.before.before.args.board.now
-    (sym c.before.before.board_ok.ensures ∙ (both space full (not-false (space && full) c.before.if-not-space.false)).0)
+known c = of-known c.args.board.now c.before.before.board_ok.result (eqb (length c.args.row.now) 360) c.before.before.board_ok.ensures c.before.if-not-space.false
 
 pub returns-then-not-all_finite : goal.returns-then-not-all_finite
 unfolding join_answer join_refusal
@@ -31,7 +33,7 @@ unfolding join_answer join_refusal
 returns-then-not-space c = simp (← c.all_finite.ensures, c.if-not-all_finite.false, ← c.board_ok.ensures, c.if-not-space.true)
 
 pub bounds-board-0 : goal.bounds-board-0
-bounds-board-0 c = omega (arith, (known (goal.at.bounds-board-0 c).After-shared_slice_known-3-1).size)
+bounds-board-0 c = omega (arith, (of-known c.args.board.now c.board_ok.result (eqb (length c.args.row.now) 360) c.board_ok.ensures c.if-not-space.false).size)
 
 pub overflow_cast-n : goal.overflow_cast-n
 overflow_cast-n c = omega (arith, c.type_inv.board 0)

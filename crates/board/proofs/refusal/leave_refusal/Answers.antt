@@ -14,7 +14,7 @@ use Rattle.board.proofs.refusal.leave_refusal.Goals.{Else-not-board_ok}
 known : (c : Else-not-board_ok) → Whole c.before.before.before.args.board.now
 known c =
     whole c.before.before.before.args.board.now
-    (sym c.before.board_ok.ensures ∙ not-false c.before.board_ok.result c.if-not-board_ok.false)
+    (sym c.before.board_ok.ensures ∙ c.if-not-board_ok.false)
 
 pub returns-then-not-board_ok : goal.returns-then-not-board_ok
 unfolding leave_answer leave_refusal
