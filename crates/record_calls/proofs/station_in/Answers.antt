@@ -14,4 +14,4 @@ returns c =
     let all = parm in
     let fs = part (floats all.args.words.now) 1 56 in
     let n : length (drop 26 fs) ≤ 30 = rw (length-drop, length-take) (omega arith) in
-    rw (c.gainmaxb_at.ensures, c.gainmax_at.ensures, parm.parm_at.ensures, parm.Mode-of.ensures, all.floats_of-floats.ensures, take_all 30 (drop 26 fs) n)
+    rw (c.gainmaxb_at.ensures, c.gainmax_at.ensures, parm.parm_at.ensures, parm.mode_of.ensures, all.floats_of-floats.ensures, take_all 30 (drop 26 fs) n)

@@ -23,4 +23,4 @@ pub returns : goal.returns
 unfolding write_call
 returns c =
     let write = c in
-    rw (c.code_of.ensures, eq-eqb _ _ write.if-words-ne57.false, ← write.station_in.ensures, ← write.write.ensures) (coded write.write.result write.write.new.1.1.0)
+    rw (c.code_of.ensures, eq-eqb _ _ write.if-words-ne57.false, ← write.station_in.ensures, ← write.write.ensures) (coded write.write.result write.write.new.out)
