@@ -19,4 +19,4 @@ returns c =
     let gains = set in
     let parm = gains in
     c.put_preview.ensures
-    ∙ rw (eq-eqb _ _ parm.if-floats-ne58.false, eq-eqb _ _ parm.if-out-ne7.false, set.preview.ensures, set.Mode-of.ensures, gains.gainmaxb_at-gainmaxb.ensures, gains.gainmax_at-gainmax.ensures, parm.parm_at-parm.ensures)
+    ∙ rw (eq-eqb _ _ parm.if-floats-ne58.false, eq-eqb _ _ parm.if-out-ne7.false, set.preview.ensures, set.mode_of.ensures, gains.gainmaxb_at-gainmaxb.ensures, gains.gainmax_at-gainmax.ensures, parm.parm_at-parm.ensures)
