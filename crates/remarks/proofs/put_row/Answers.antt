@@ -17,15 +17,13 @@ room = length-replicate 360 +0
 
 pub returns-in-Refused : goal.returns-in-Refused
 returns-in-Refused c =
-    let told = c.in-Refused.given in
     let answered = c in
     let a = answered.args in
-    rw (row-refused a.ratio a.q a.table.now lent room answered.row-answer.result answered.row-answer.ensures.result_value told.0.0 told.1) (wrote_none a.out.now 0)
+    rw (row-refused a.ratio a.q a.table.now lent room answered.row-answer.result answered.row-answer.ensures.result_value c.in-Refused.field-0 c.in-Refused.is) (wrote_none a.out.now 0)
 
 pub returns-in-FrontToBack : goal.returns-in-FrontToBack
 returns-in-FrontToBack c =
-    let told = c.in-FrontToBack.given in
     let answered = c in
     let a = answered.args in
-    rw (row_remarks_lem a.ratio a.q a.table.now lent room answered.row-answer.result answered.row-answer.ensures.result_value told.0.0 told.1, ← c.off_band.ensures)
+    rw (row_remarks_lem a.ratio a.q a.table.now lent room answered.row-answer.result answered.row-answer.ensures.result_value c.in-FrontToBack.field-0 c.in-FrontToBack.is, ← c.off_band.ensures)
     c.put_remarks.ensures

@@ -30,22 +30,20 @@ pub returns-then-out-lt256 : goal.returns-then-out-lt256
 unfolding remarks_in
 returns-then-out-lt256 c =
     let out = c.args.out.now in
-    rw (lt-ltb (length out) 256 c.if-out-lt256.true) (wrote_none out 0, (omega arith, refl))
+    rw (lt-ltb (length out) 256 c.if-out-lt256.true) (record { text = wrote_none out 0; within = (omega arith, refl) })
 
 pub returns-in-Refused : goal.returns-in-Refused
 returns-in-Refused c =
-    let told = c.in-Refused.given in
     let prepared = c in
     let a = prepared.args in
-    with_length a.input.now (rw (request-refused a.input.now prepared.prepare-prepared.result (answered (goal.at.returns-in-Refused c).After-prepare-prepared) told.0.0 told.1) (wrote_none a.out.now 0)) (omega arith) refl
+    let both = with_length a.input.now (rw (request-refused a.input.now prepared.prepare-prepared.result (answered (goal.at.returns-in-Refused c).After-prepare-prepared) c.in-Refused.field-0 c.in-Refused.is) (wrote_none a.out.now 0)) (omega arith) refl in record { text = both.0; within = both.1 }
 
 pub returns-in-Ready : goal.returns-in-Ready
 returns-in-Ready c =
     let put = c in
     let ratio = c in
-    let told = ratio.in-Ready.given in
     let prepared = c in
     let input = prepared.args.input.now in
-    with_length input
-    (rw (request-ready input prepared.prepare-prepared.result (answered (goal.at.returns-in-Ready c).After-prepare-prepared) told.1, ← ratio.by_ratio.ensures, ← prepared.blank_table-table.ensures, ← prepared.prepare-prepared.ensures.table_after) put.put_row.ensures)
-    (omega arith) (omega arith)
+    let both = with_length input
+    (rw (request-ready input prepared.prepare-prepared.result (answered (goal.at.returns-in-Ready c).After-prepare-prepared) c.in-Ready.is, ← ratio.by_ratio.ensures, ← prepared.blank_table-table.ensures, ← prepared.prepare-prepared.ensures.table_after) put.put_row.ensures)
+    (omega arith) (omega arith) in record { text = both.0; within = both.1 }

@@ -1,11 +1,11 @@
 -- `remarks::limits::limits` meets its contract. Assumes nothing.
 use Prim.Native.Nat.{◌-◌}
 use mathlib.Core.Path.{◌≡◌, refl}
-use mathlib.Core.Logic.{⊎_elim}
 use native.Mathlib.Omega.{arith}
 use native.Mathlib.Numerals.{add-one}
 use Rattle.remarks.specs.Directions.{limits_to}
 use Rattle.remarks.proofs.limits.limits.Goals as goal
+use Rattle.remarks.proofs.limits.limits.Goals.{then-is_level-is_floor, else-is_level-is_floor}
 
 pub loop-v-init : goal.loop-v-init
 unfolding limits_to
@@ -31,8 +31,8 @@ loop-v-preserved c =
     let answer = relative in
     let head = answer in (
       rw (add-one, ← answer.ccirgain-answer.ensures, ← relative.ccirgain-relative.ensures, ← tested.is_level.ensures, ← tested.is_floor.ensures, ← head.loop-v.invariant.0)
-          (⊎_elim (λ w. rw w.0.taken (omega arith)) (λ w. rw w.0.left (omega arith)) c.if-is_level-is_floor.branch),
-      ⊎_elim (λ w. omega arith) (λ w. omega arith) c.if-is_level-is_floor.branch,
+          (elim c.if-is_level-is_floor.branch [ then-is_level-is_floor w ↦ rw w.if-is_level-is_floor.true (omega arith) | else-is_level-is_floor w ↦ rw w.if-is_level-is_floor.false (omega arith) ]),
+      omega arith,
       omega arith,
     )
 
