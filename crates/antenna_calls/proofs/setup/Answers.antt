@@ -43,10 +43,10 @@ returns-in-Refused c =
     let p = s in
     let start = p in
     let parm = start.args.parm.now in
-    let n = c.answer.given.0.0 in
+    let n = c.in-Refused.n in
     let e : p.parm_at.result ≡ parm = p.parm_at.ensures ∙ take_all 20 parm (omega arith) in
     let h = sym s.antinit2-s.ensures.result_value ∙ turned_away s.antinit2-s.result n c.in-Refused.is in record {
-      out_after = rw (eq-eqb _ _ p.if-parm-ne20.false, eq-eqb _ _ p.if-antenna-ne-ANTENNA.false, eq-eqb _ _ p.if-out-ne4.false, ← e, s.antinit2-s.ensures.lent_after.0, h);
+      out_after = rw (eq-eqb _ _ p.if-parm-ne20.false, eq-eqb _ _ p.if-antenna-ne-ANTENNA.false, eq-eqb _ _ p.if-out-ne4.false, ← e, s.antinit2-s.ensures.lent_after, h);
       antenna_after = λ z. absurd (omega (arith, some_number p.parm_at.result (length start.args.table.now) n h));
     }
 
@@ -55,7 +55,6 @@ unfolding recorded set_up_call
 returns-in-Ready c =
     let put = c in
     let search = put in
-    let told = search.in-Ready.given in
     let s = search in
     let p = s in
     let start = p in
@@ -63,10 +62,10 @@ returns-in-Ready c =
     let out = start.args.out.now in
     let size = length start.args.table.now in
     let ant = s.antinit2-s.result.antenna in
-    let readings = told.0.0 in
+    let readings = search.in-Ready.readings in
     let e : p.parm_at.result ≡ parm = p.parm_at.ensures ∙ take_all 20 parm (omega arith) in
-    let h : set_up_of p.parm_at.result size ≡ accepted (ant, readings) = sym s.antinit2-s.ensures.result_value ∙ ready s.antinit2-s.result readings told.1 in
+    let h : set_up_of p.parm_at.result size ≡ accepted (ant, readings) = sym s.antinit2-s.ensures.result_value ∙ ready s.antinit2-s.result readings search.in-Ready.is in
     let w = laid-whole out (search_words readings ant.peak) (omega (arith, four-words readings ant.peak)) in record {
-      out_after = rw (eq-eqb _ _ p.if-parm-ne20.false, eq-eqb _ _ p.if-antenna-ne-ANTENNA.false, eq-eqb _ _ p.if-out-ne4.false, ← e, ← s.antinit2-s.ensures.lent_after.0, h, put.put_antenna.ensures.out_after, search.put_search.ensures, w);
-      antenna_after = λ z. put.put_antenna.ensures.out_after_2 (set_up_counts p.parm_at.result size h) ∙ s.antinit2-s.ensures.lent_after.1 ∙ ap (λ (q : List Float). beside_of (set_up_of q size)) e;
+      out_after = rw (eq-eqb _ _ p.if-parm-ne20.false, eq-eqb _ _ p.if-antenna-ne-ANTENNA.false, eq-eqb _ _ p.if-out-ne4.false, ← e, ← s.antinit2-s.ensures.lent_after, h, put.put_antenna.ensures.out_after, search.put_search.ensures, w);
+      antenna_after = λ z. put.put_antenna.ensures.out_after_2 (set_up_counts p.parm_at.result size h) ∙ s.antinit2-s.ensures.antenna_value ∙ ap (λ (q : List Float). beside_of (set_up_of q size)) e;
     }
