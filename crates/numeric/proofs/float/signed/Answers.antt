@@ -1,5 +1,5 @@
 -- `signed`: the sign bit is the highest, and the others are kept (`sign_set`).
-use Rattle.std.proofs.Common.{◌≡◌, ℕ, ◌+◌, ◌%◌, ◌^◌, ◌≤◌, Bool, true, false, cond, not, T, sym, ap, ◌∙◌, subst, arith}
+use Rattle.std.proofs.Common.{◌≡◌, ℕ, ◌+◌, ◌%◌, ◌^◌, Bool, cond, not, T, sym, ap, ◌∙◌, subst}
 use lib.Ieee.{binary32, is_nan, to_bits, of_bits}
 use lib.Ieee.Bits.{nan_bits_is}
 use Rattle.numeric.specs.Float.{with_sign}

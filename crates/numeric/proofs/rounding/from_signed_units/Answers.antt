@@ -1,6 +1,6 @@
 -- `numeric::rounding::from_signed_units` meets its contract: a number below 0 is the negation of its size (`Signs.neg-round`).
-use Rattle.std.proofs.Common.{◌≡◌, suc, ◌<◌, ◌^◌, true, false, T, ℤ, pos, negsuc, ◌-ℤ◌, nat_abs, sym, refl, ap, ◌∙◌, subst, true≢false, zero-add, arith, to_z-of_z, w64, SFits, to_z, of_z}
-use lib.Signed.{non_neg, le_z}
+use Rattle.std.proofs.Common.{◌≡◌, suc, ◌<◌, ◌^◌, false, ℤ, pos, negsuc, ◌-ℤ◌, nat_abs, sym, ap, ◌∙◌, subst, true≢false, zero-add, arith, to_z-of_z, w64, SFits, to_z, of_z}
+use lib.Signed.{le_z}
 use lib.Dec.{leb-zero}
 use lib.Ieee.{binary32, neg}
 use Rattle.numeric.specs.Rounding.{F}
