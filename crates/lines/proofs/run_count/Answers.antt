@@ -1,5 +1,5 @@
 -- `run_count`, a word a turn: n words stand before `at`. Assumes nothing.
-use Prim.Native.Nat.{◌-◌, ◌<◌}
+use Prim.Native.Nat.{◌<◌}
 use native.Mathlib.Omega.{arith}
 use lib.ListN.{length}
 use Rattle.lines.proofs.Starts.{starts_first, starts_next, starts_further, starts_some, starts_end}

@@ -1,6 +1,6 @@
 -- `word_start`, a word a turn: i words stand before `at`. Assumes nothing.
 use mathlib.Core.Path.{◌≡◌, subst}
-use Prim.Native.Nat.{ℕ, ◌-◌}
+use Prim.Native.Nat.{ℕ}
 use native.Mathlib.Omega.{arith}
 use Rattle.lines.specs.Inner.{StartsAfter}
 use Rattle.lines.proofs.Starts.{starts_first, starts_next, starts_past}

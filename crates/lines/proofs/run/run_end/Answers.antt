@@ -1,6 +1,5 @@
 -- `run::run_end`, a byte a turn: no byte before i ends the run. Assumes nothing.
 use mathlib.Core.Path.{sym, ◌∙◌}
-use Prim.Native.Nat.{◌-◌}
 use native.Mathlib.Numerals.{add-one}
 use native.Mathlib.Omega.{arith}
 use Rattle.lines.specs.Inner.{stops_at}
