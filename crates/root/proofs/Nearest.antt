@@ -8,7 +8,7 @@ use mathlib.Core.Bool.{true, false}
 use lib.Dec.{T, lit<, lit≤}
 use lib.IntN.{ℤ}
 use lib.Pow.{pow_pos, pow-add, pow_mono}
-use lib.Ieee.{Float, nan, inf, fin, binary32, up, down, size, round, fits}
+use lib.Ieee.{Float, nan, inf, fin, binary32, down, size, round, fits}
 use lib.Ieee.Fits.{round-fits, up_pos, down_pos}
 use lib.Ieee.Digits.{size-lt, size_reaches}
 use lib.Ieee.Scale.{round_val}

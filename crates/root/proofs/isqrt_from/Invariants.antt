@@ -1,5 +1,5 @@
 -- `isqrt_from`. The guess x stays at the root of n or above it, so it is the root once its square is at most n.
-use Prim.Native.Nat.{suc, ◌-◌, ◌*◌, ◌^◌, ◌<◌}
+use Prim.Native.Nat.{suc, ◌*◌, ◌^◌, ◌<◌}
 use Rattle.root.proofs.isqrt_from.Given as goal
 
 abbrev pub invariant-loop-x : goal.invariant-loop-x
