@@ -5,6 +5,7 @@ use Rattle.std.specs.Float.Ieee.Scale.{finite}
 use Rattle.floats.specs.Ops.{◌⊘◌, +0}
 use Rattle.floats.specs.Literals.{two}
 use Rattle.model.specs.Types.{jant_of, array_type, log_periodic}
+use Rattle.model.specs.declared.record.Ground.{Ground}
 use Rattle.model.specs.declared.record.Model.{Model}
 use Rattle.trig.specs.Trig.{trig_tables}
 use Rattle.ground.specs.Ground.{ground_of}
@@ -59,7 +60,8 @@ unfoldable pub model_of : ℕ → List Float → Model
 model_of iant p =
     let l = elements_of iant p in
     let k = constants_of iant p l.boom in
-    record { iant = iant; slewed = slewed_of iant p; constants = k; elements = l.elements; trig = trig_tables; ground = ground_of iant k trig_tables }
+    let ground : Ground = ground_of iant k trig_tables in
+    record { iant = iant; slewed = slewed_of iant p; constants = k; elements = l.elements; trig = trig_tables; ground = ground }
 
 -- a gain met in the search, or z6, umax, vmax after it, isn't finite
 unfoldable pub search_refused : Search → Bool

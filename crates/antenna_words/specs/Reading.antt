@@ -60,18 +60,20 @@ peak_of k = record { z6 = at k 0; umax = at k 1; vmax = at k 2 }
 
 -- any word but 0 is "slewed"
 unfoldable pub antenna_of : List ℕ → List Float → Antenna
-antenna_of ws fs = record {
-  model = record {
-    iant = get_or ws 0 0;
-    slewed = not (eqb (get_or ws 1 0) 0);
-    constants = constants_of (part fs 2 16);
-    elements = elements_of ws fs;
-    trig = trig_of fs;
-    ground = ground_of fs;
-  };
-  peak = peak_of (part fs 994 3);
-  sum = get_or ws 997 0;
-}
+antenna_of ws fs =
+    let ground : Ground = ground_of fs in
+    record {
+      model = record {
+        iant = get_or ws 0 0;
+        slewed = not (eqb (get_or ws 1 0) 0);
+        constants = constants_of (part fs 2 16);
+        elements = elements_of ws fs;
+        trig = trig_of fs;
+        ground = ground;
+      };
+      peak = peak_of (part fs 994 3);
+      sum = get_or ws 997 0;
+    }
 
 unfoldable pub antenna_in : List ℕ → Antenna
 antenna_in ws = antenna_of ws (floats ws)

@@ -5,7 +5,7 @@ use native.Mathlib.Nat.{lt_of_le_of_lt, mod-eq_of_lt}
 use native.Mathlib.Omega.{arith}
 use lib.Pow.{pow-lt, pow_mono}
 use Rattle.logarithm.specs.Logarithm.{square, digit, digits}
-use Rattle.logarithm.proofs.Digits.{product_le, square-lt, shifted, digit-le, digits-next, digits_lt, step}
+use Rattle.logarithm.proofs.Digits.{square-lt, shifted, digit-le, digits-next, digits_lt, step}
 use Rattle.logarithm.proofs.+digits_left.Goals as goal
 
 -- `digit << k` is the digit times 2 ^ k
