@@ -1,6 +1,5 @@
 -- `lowest_fault`: every kHz below the loop's is covered once.
 use mathlib.Core.Path.{◌≡◌, sym, ◌∙◌}
-use Prim.Native.Nat.{◌-◌}
 use native.Mathlib.Omega.{arith}
 use borrow.Author.Tests.{ne_eqb}
 use Rattle.bandbook.specs.Rows.{rows_in}

@@ -1,6 +1,5 @@
 -- `stretch_from`: of the rows passed, as many cover each kHz up to the end.
 use mathlib.Core.Path.{◌≡◌}
-use Prim.Native.Nat.{◌-◌}
 use native.Mathlib.Numerals.{add-one}
 use native.Mathlib.Omega.{arith}
 use lib.ListN.{length}

@@ -1,6 +1,5 @@
 -- `first_bad_row`: no row before the loop's is bad.
 use mathlib.Core.Path.{◌≡◌, sym, ◌∙◌}
-use Prim.Native.Nat.{◌-◌}
 use native.Mathlib.Omega.{arith}
 use lib.ListN.{length}
 use Rattle.bandbook.specs.Rows.{rows_in, bad_row}
