@@ -1,6 +1,5 @@
 -- `words::ascii::push_digits` meets its contract: the digits before the last, by itself, then the last. Assumes nothing.
 use mathlib.Core.Path.{◌≡◌, ap, ◌∙◌}
-use native.Mathlib.Nat.{lt_of_lt_of_le, mod-lt}
 use native.Mathlib.Omega.{arith}
 use mathlib.Core.List.{[], ◌∷◌, ◌++◌, map, map-append}
 use Rattle.words.specs.Digits.{digits}
@@ -8,7 +7,7 @@ use Rattle.words.proofs.Digits.{digits-none, digits_last}
 use Rattle.words.specs.Numbers.{character}
 use Rattle.words.proofs.Writing.{wrote_none, then}
 use Rattle.words.proofs.Numbers.{digits-length}
-use Prim.Native.Nat.{ℕ, suc, ◌+◌, ◌-◌, ◌/◌, ◌%◌, ◌<◌}
+use Prim.Native.Nat.{ℕ, suc, ◌-◌, ◌/◌, ◌%◌}
 use Rattle.words.proofs.ascii.+push_digits.Goals as goal
 
 pub returns-then-k-eq0 : goal.returns-then-k-eq0

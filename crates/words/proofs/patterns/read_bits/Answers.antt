@@ -1,6 +1,6 @@
 -- `read_bits` reads one float a turn.
 use mathlib.Core.Path.{◌≡◌, refl, ap, ◌∙◌}
-use Prim.Native.Nat.{◌+◌, ◌-◌}
+use Prim.Native.Nat.{◌+◌}
 use native.Mathlib.Omega.{arith}
 use lib.ListN.{length, length-set, length-map, get_or-map}
 use lib.Ieee.{binary32, of_bits}
