@@ -1,6 +1,5 @@
 -- `extremes_over` compares one level a turn.
 use mathlib.Core.Path.{◌≡◌}
-use Prim.Native.Nat.{◌-◌}
 use native.Mathlib.Omega.{arith}
 use lib.Seq.{slice_empty}
 use lib.Ieee.{binary32, of_bits}

@@ -1,6 +1,5 @@
 -- `all_levels` looks at one word a turn.
 use mathlib.Core.Path.{◌≡◌, refl}
-use Prim.Native.Nat.{◌-◌}
 use native.Mathlib.Omega.{arith}
 use Rattle.levels.specs.State.{all, is_level}
 use Rattle.levels.proofs.Places.{all_more}

@@ -1,6 +1,5 @@
 -- `all_zero` looks at one word a turn.
 use mathlib.Core.Path.{◌≡◌}
-use Prim.Native.Nat.{◌-◌}
 use native.Mathlib.Omega.{arith}
 use lib.Seq.{slice_empty}
 use Rattle.levels.specs.State.{all, is_zero}
