@@ -1,5 +1,4 @@
 use Rattle.floats.specs.Ranges.{finite_to, all_finite}
-use Prim.Native.Nat.{◌-◌}
 use lib.ListN.{length}
 use mathlib.Core.Path.{◌≡◌, refl}
 use native.Mathlib.Omega.{arith}
