@@ -1,10 +1,9 @@
 -- `numerals::push_up_to` meets its contract: the tens by itself, then the ones. Assumes nothing.
-use mathlib.Core.Path.{◌≡◌, ap, ◌∙◌}
+use mathlib.Core.Path.{◌≡◌}
 use native.Mathlib.Omega.{arith}
 use Rattle.words.proofs.Writing.{wrote_none, then}
-use Rattle.numerals.specs.Numeral.{numeral_in}
 use Rattle.numerals.proofs.Laws.{numeral-none, numeral-ones, numeral_tens, numeral-length}
-use Prim.Native.Nat.{ℕ, suc, ◌-◌, ◌/◌, ◌<◌}
+use Prim.Native.Nat.{suc, ◌-◌, ◌/◌}
 use Rattle.numerals.proofs.+push_up_to.Goals as goal
 
 pub returns-then-k-eq0 : goal.returns-then-k-eq0

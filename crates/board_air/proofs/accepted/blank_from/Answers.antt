@@ -1,7 +1,7 @@
 -- `board_air::accepted::blank_from` meets its contract: what was seen, with the words that are left, is the whole.
 use mathlib.Core.Path.{◌≡◌, refl, sym, ◌∙◌}
 use mathlib.Core.Bool.{and-true}
-use Prim.Native.Nat.{◌<◌, ◌-◌}
+use Prim.Native.Nat.{◌<◌}
 use native.Mathlib.Numerals.{add-one}
 use lib.ListN.{length}
 use lib.Seq.{drop-cons, drop-length}

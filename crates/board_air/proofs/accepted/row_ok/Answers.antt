@@ -1,6 +1,5 @@
 -- `board_air::accepted::row_ok` meets its contract.
 use mathlib.Core.Path.{◌≡◌, refl, ap, ◌∙◌}
-use Prim.Native.Nat.{◌-◌}
 use native.Mathlib.Numerals.{add-one}
 use lib.ListN.{length}
 use Rattle.floats.specs.Ranges.{finite_to, all_finite}

@@ -1,6 +1,5 @@
 -- `board_air::accepted::stations_ok` meets its contract.
 use mathlib.Core.Path.{◌≡◌, refl}
-use Prim.Native.Nat.{◌-◌}
 use native.Mathlib.Numerals.{add-one}
 use Rattle.board_air.specs.Words.{stations_to, stations_ok}
 use native.Mathlib.Omega.{arith}

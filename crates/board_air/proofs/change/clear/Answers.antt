@@ -1,6 +1,6 @@
 -- `board_air::change::clear` meets its contract.
 use mathlib.Core.Path.{refl, sym, ◌∙◌}
-use Prim.Native.Nat.{ℕ, ◌-◌}
+use Prim.Native.Nat.{ℕ}
 use lib.ListN.{replicate, length-set, length-replicate, get_or-replicate}
 use lib.Seq.{paste-zero}
 use Rattle.words.proofs.Laid.{laid_pasted}

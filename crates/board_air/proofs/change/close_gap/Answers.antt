@@ -1,7 +1,7 @@
 -- `board_air::change::close_gap` meets its contract.
 use mathlib.Core.Path.{refl, sym, ap, ◌∙◌}
 use mathlib.Core.List.{List}
-use Prim.Native.Nat.{ℕ, ◌+◌, ◌-◌}
+use Prim.Native.Nat.{ℕ, ◌+◌}
 use lib.ListN.{get_or, drop, set, length-set, length-drop}
 use lib.Seq.{paste-zero, get_or-drop}
 use Rattle.words.proofs.Laid.{laid_pasted}

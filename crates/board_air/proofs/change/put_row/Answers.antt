@@ -1,7 +1,6 @@
 -- `board_air::change::put_row` meets its contract.
 use mathlib.Core.Path.{refl, sym, ◌∙◌}
 use mathlib.Core.List.{map}
-use Prim.Native.Nat.{◌-◌}
 use lib.ListN.{length-set, length-map, get_or-map}
 use lib.Seq.{paste-zero}
 use lib.Ieee.{nan, binary32, to_bits}

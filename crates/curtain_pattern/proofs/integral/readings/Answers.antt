@@ -1,6 +1,5 @@
 -- `curtain_pattern::integral::readings` meets its contract.
 use mathlib.Core.Path.{◌≡◌, refl, sym, ◌∙◌}
-use Prim.Native.Nat.{◌-◌}
 use native.Mathlib.Numerals.{add-one}
 use native.Mathlib.Omega.{arith}
 use Rattle.curtain_pattern.proofs.InSteps.{f2_in_steps}
