@@ -1,14 +1,12 @@
 -- How long the names are. Assumes nothing.
-use mathlib.Core.Path.{◌≡◌, refl, ap, ◌∙◌}
+use mathlib.Core.Path.{◌≡◌, refl}
 use mathlib.Core.Bool.{Bool, true, false}
-use Prim.Native.Nat.{ℕ, zero, suc, ◌-◌, ◌≤◌}
-use native.Mathlib.Nat.{le_trans}
+use Prim.Native.Nat.{ℕ, zero, suc, ◌≤◌}
 use native.Mathlib.Omega.{arith}
 use lib.Dec.{leb, lit≤}
-use lib.ListN.{length, drop, length-take}
+use lib.ListN.{length, length-take}
 use borrow.Author.Tests.{leb-true, leb-false}
 use Rattle.fields.specs.Names.{FIELDS, name_of}
-use Rattle.fields.specs.Inner.{row_of_names, name_start}
 use Rattle.fields.proofs.NameParts.{placed, nameless}
 
 pub name_length : (f : ℕ) → length (name_of f) ≤ 10

@@ -8,7 +8,7 @@ use borrow.Author.Tests.{ltb-true, eqb-true}
 use lib.Dec.{T, ltb, eqb, lit<}
 use lib.IntN.{ℤ, pos, nat_abs, ◌-ℤ◌, ◌*ℤ◌}
 use lib.Signed.{◌≤ℤ◌}
-use lib.Ieee.{Float, nan, inf, fin, le, up, down}
+use lib.Ieee.{Float, nan, inf, fin, le}
 use lib.Ieee.Nearest.{div_mono}
 use lib.Ieee.Positive.{num, den, den_pos}
 use lib.Ieee.Scale.{finite}

@@ -3,7 +3,6 @@ use mathlib.Core.Path.{◌≡◌, sym, ◌∙◌}
 use mathlib.Core.Bool.{true}
 use native.Mathlib.Omega.{arith}
 use lib.ListN.{length}
-use borrow.Author.Tests.{not-false}
 use Rattle.station.specs.Record.{is_record}
 use Rattle.station.specs.Answers.{read_of}
 use Rattle.words.proofs.Digits.{below_all}

@@ -1,7 +1,7 @@
 -- `station::write` meets its contract: the tests in the order of the refusals' numbers, then the record. Assumes nothing.
 use mathlib.Core.Path.{◌≡◌, sym, ◌∙◌}
 use mathlib.Core.Bool.{true, false}
-use borrow.Author.Tests.{not-false, le-leb, lt-leb, eq-eqb, ne_eqb}
+use borrow.Author.Tests.{le-leb, lt-leb, eq-eqb, ne_eqb}
 use Rattle.floats.specs.Ranges.{all_finite}
 use Rattle.model.specs.Limits.{slot}
 use Rattle.station.specs.Header.{typeless}

@@ -1,7 +1,6 @@
 -- `trig::trigfun` meets its contract.
 use mathlib.Core.Path.{◌≡◌, refl}
 use native.Mathlib.Omega.{arith}
-use Prim.Native.Nat.{◌-◌}
 use native.Mathlib.Numerals.{add-one}
 use Rattle.floats.specs.Filled.{filled_to}
 use Rattle.trig.specs.Trig.{trig_tables}

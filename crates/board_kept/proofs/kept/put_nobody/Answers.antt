@@ -1,7 +1,7 @@
 -- `board_kept::kept::put_nobody` meets its contract.
 use mathlib.Core.Path.{sym, ap, ◌∙◌}
 use mathlib.Core.List.{List}
-use Prim.Native.Nat.{ℕ, ◌+◌, ◌-◌}
+use Prim.Native.Nat.{ℕ, ◌+◌}
 use lib.ListN.{length, set}
 use Rattle.board_kept.proofs.Writing.{written-length, written_none, written-more, written_all}
 use Rattle.board_kept.proofs.Nobody.{kept-none}

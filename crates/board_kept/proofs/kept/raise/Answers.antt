@@ -1,7 +1,7 @@
 -- `board_kept::kept::raise` meets its contract.
 use mathlib.Core.Path.{◌≡◌, sym, ap, ◌∙◌}
 use mathlib.Core.List.{List}
-use Prim.Native.Nat.{ℕ, ◌+◌, ◌-◌}
+use Prim.Native.Nat.{ℕ, ◌+◌}
 use lib.ListN.{length, get_or, set}
 use Rattle.board_kept.specs.Steps.{entry, entry_in, better_of, raised}
 use Rattle.board_kept.proofs.Writing.{written-length, written_none, written-rest, written-more, written_all}

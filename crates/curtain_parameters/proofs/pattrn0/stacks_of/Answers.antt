@@ -1,6 +1,5 @@
 -- `curtain_parameters::pattrn0::stacks_of` meets its contract.
 use mathlib.Core.Path.{◌≡◌, refl}
-use Prim.Native.Nat.{◌-◌}
 use native.Mathlib.Numerals.{add-one}
 use native.Mathlib.Omega.{arith}
 use Rattle.floats.specs.Filled.{filled_to}

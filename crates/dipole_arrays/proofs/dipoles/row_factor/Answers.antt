@@ -1,5 +1,5 @@
 -- `dipole_arrays::dipoles::row_factor` meets its contract.
-use Rattle.std.proofs.Common.{◌≡◌, ◌-◌, refl, add-one, arith}
+use Rattle.std.proofs.Common.{◌≡◌, refl, add-one, arith}
 use Rattle.dipole_arrays.specs.Rows.{sine_sum, cosine_sum}
 use Rattle.dipole_arrays.specs.Dipoles.{row_factor}
 use Rattle.dipole_arrays.proofs.dipoles.row_factor.Goals as goal

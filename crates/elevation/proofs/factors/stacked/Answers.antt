@@ -1,5 +1,5 @@
 -- `elevation::factors::stacked` meets its contract.
-use Rattle.std.proofs.Common.{◌≡◌, ◌-◌, refl, add-one, arith}
+use Rattle.std.proofs.Common.{◌≡◌, refl, add-one, arith}
 use Rattle.elevation.specs.Factors.{stack_to}
 use Rattle.elevation.proofs.factors.stacked.Goals as goal
 

@@ -1,8 +1,6 @@
 -- `takes`, field by field. Assumes nothing.
-use borrow.Author.Tests.{ne_eqb}
 use native.Mathlib.Omega.{arith}
 use Rattle.std.proofs.lemmas.Grind.{common_steps}
-use borrow.Author.Rules.{rules}
 use Rattle.fields.specs.Limits.{takes}
 use Rattle.fields.proofs.limits.takes.Goals as goal
 

@@ -1,7 +1,6 @@
 -- `field_of`, a name a turn: none of the first f is the word. Assumes nothing.
 use Rattle.fields.specs.Names.{FIELDS, is_named, field_of}
 use mathlib.Core.Path.{◌≡◌, refl, sym, ◌∙◌}
-use Prim.Native.Nat.{◌-◌}
 use native.Mathlib.Omega.{arith}
 use native.Mathlib.Numerals.{add-one}
 use Rattle.fields.specs.Least.{least}

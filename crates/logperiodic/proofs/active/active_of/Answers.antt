@@ -1,5 +1,5 @@
 -- `logperiodic::active::active_of` meets its contract.
-use Rattle.std.proofs.Common.{◌≡◌, ◌-◌, refl, add-one, arith}
+use Rattle.std.proofs.Common.{◌≡◌, refl, add-one, arith}
 use Rattle.logperiodic.specs.Active.{active_to}
 use Rattle.logperiodic.proofs.active.Listing.{active_few, active_listed}
 use Rattle.logperiodic.proofs.active.active_of.Goals as goal

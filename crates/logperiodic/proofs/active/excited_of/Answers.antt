@@ -1,5 +1,5 @@
 -- `logperiodic::active::excited_of` meets its contract.
-use Rattle.std.proofs.Common.{◌≡◌, ◌-◌, refl, add-one, arith}
+use Rattle.std.proofs.Common.{◌≡◌, refl, add-one, arith}
 use Rattle.logperiodic.specs.Active.{over_active, currents, phases, excited}
 use Rattle.logperiodic.proofs.active.Listing.{below}
 use Rattle.logperiodic.proofs.active.excited_of.Goals as goal

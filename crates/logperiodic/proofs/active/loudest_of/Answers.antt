@@ -1,6 +1,6 @@
 -- `logperiodic::active::loudest_of` meets its contract.
 use Rattle.logperiodic.specs.Active.{loudest_to, loudest}
-use Rattle.std.proofs.Common.{◌≡◌, ◌-◌, refl, add-one, arith}
+use Rattle.std.proofs.Common.{◌≡◌, refl, add-one, arith}
 use Rattle.logperiodic.proofs.active.Listing.{below}
 use Rattle.logperiodic.proofs.active.loudest_of.Goals as goal
 

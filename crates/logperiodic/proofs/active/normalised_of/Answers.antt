@@ -1,5 +1,5 @@
 -- `logperiodic::active::normalised_of` meets its contract.
-use Rattle.std.proofs.Common.{◌≡◌, ◌-◌, refl, add-one, arith}
+use Rattle.std.proofs.Common.{◌≡◌, refl, add-one, arith}
 use Rattle.logperiodic.specs.Active.{over_active, relative_phases, strengths, normalised}
 use Rattle.logperiodic.proofs.active.Listing.{below}
 use Rattle.logperiodic.proofs.active.normalised_of.Goals as goal
