@@ -1,6 +1,5 @@
 -- `board_anew::kept::put_kept` meets its contract.
 use mathlib.Core.Path.{◌≡◌, refl, sym, ap, ◌∙◌}
-use Prim.Native.Nat.{◌-◌}
 use lib.ListN.{length-set}
 use Rattle.board_air.specs.Stations.{up_to}
 use Rattle.board_kept.proofs.Writing.{up_to-none, up_to-more, up_to-all}

@@ -1,6 +1,6 @@
 -- `board_anew::kept::put_words` meets its contract.
 use mathlib.Core.Path.{refl, sym, ap, ◌∙◌}
-use Prim.Native.Nat.{ℕ, ◌-◌}
+use Prim.Native.Nat.{ℕ}
 use native.Mathlib.Nat.{zero-add}
 use lib.ListN.{get_or, set, length-set}
 use lib.Seq.{paste, paste-zero}

@@ -1,7 +1,6 @@
 -- `ground::parmprec::fill_elevations` meets its contract.
 use mathlib.Core.Path.{◌≡◌, refl}
 use native.Mathlib.Omega.{arith}
-use Prim.Native.Nat.{◌-◌}
 use native.Mathlib.Numerals.{add-one}
 use Rattle.model.proofs.ActiveElements.{few_active, active_named}
 use Rattle.ground.specs.Table.{elevations_to}

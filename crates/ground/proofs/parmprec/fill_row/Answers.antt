@@ -1,7 +1,6 @@
 -- `ground::parmprec::fill_row` meets its contract.
 use mathlib.Core.Path.{◌≡◌, refl}
 use native.Mathlib.Omega.{arith}
-use Prim.Native.Nat.{◌-◌}
 use native.Mathlib.Numerals.{add-one}
 use Rattle.model.proofs.ActiveElements.{active_below}
 use Rattle.ground.specs.Table.{row_to}

@@ -1,7 +1,6 @@
 -- `ground::parmprec::ground_of` meets its contract.
 use mathlib.Core.Path.{◌≡◌, refl}
 use native.Mathlib.Omega.{arith}
-use Prim.Native.Nat.{◌-◌}
 use native.Mathlib.Numerals.{add-one}
 use Rattle.floats.specs.Filled.{filled_to}
 use Rattle.ground.specs.Ground.{ground_to, ground_of}
