@@ -8,7 +8,7 @@ use lib.Dec.{eqb}
 use borrow.Author.Tests.{eqb-true, not-false}
 use Rattle.floats.proofs.Tests.{both, next}
 use Rattle.board_air.specs.Stations.{Station, station}
-use Rattle.board_air.specs.Runs.{F32s, on, without}
+use Rattle.board_air.specs.Runs.{F32s, without}
 use Rattle.board_air.specs.Words.{U32s, air_of, words_of, kept_in, count_in, stations_to, stations_on, stations_in, board_ok}
 use Rattle.board.specs.Calls.{join_answer, join_leaves, leave_answer, leave_leaves, show_answer}
 use Rattle.board_kept.specs.Steps.{kept_by, raised, renewed}

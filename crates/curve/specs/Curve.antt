@@ -1,7 +1,6 @@
 -- Issue 27: "the curve", with "floors drawn apart", and with `--fold` "what is worked out and what is folded over". Definitions only.
-use Rattle.std.specs.Prelude.{ℕ, zero, suc, ◌%◌, Bool, true, false, not, cond, ◌&&◌, ◌||◌, List, [], ◌++◌, ltb, eqb, get_or}
+use Rattle.std.specs.Prelude.{ℕ, zero, suc, ◌%◌, Bool, false, not, cond, ◌&&◌, ◌||◌, List, [], ◌++◌, ltb, eqb, get_or}
 use Rattle.quoted.specs.Quoted.{quoted}
-use Rattle.numerals.specs.Numeral.{numeral}
 use Rattle.compass.specs.declared.Point.{Point}
 use Rattle.compass.specs.Compass.{point_of}
 use Rattle.labels.specs.Writing.{whole}

@@ -8,7 +8,7 @@ use native.Mathlib.Nat.{eq-or-lt_of_le, le_refl}
 use native.Mathlib.Omega.{arith}
 use borrow.Author.Tests.{ltb-true, ltb-false, le-ltb, eqb-false}
 use lib.Dec.{ltb, eqb}
-use lib.IntN.{ℤ, pos, negsuc, neg_ℤ, ◌+ℤ◌, ◌-ℤ◌, +ℤ_comm, neg_ℤ-+ℤ, neg_ℤ-neg_ℤ}
+use lib.IntN.{ℤ, pos, negsuc, neg_ℤ, ◌+ℤ◌, +ℤ_comm, neg_ℤ-+ℤ, neg_ℤ-neg_ℤ}
 use lib.ListN.{get_or}
 use Rattle.hundredths.specs.Raised.{lowered}
 use Rattle.hundredths.proofs.Raised.{lowered-difference}

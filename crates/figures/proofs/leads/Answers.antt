@@ -1,9 +1,8 @@
 -- `figures::leads` meets its contract. Assumes nothing.
-use Prim.Native.Nat.{◌-◌}
 use mathlib.Core.Path.{◌≡◌, refl}
 use native.Mathlib.Omega.{arith}
 use native.Mathlib.Numerals.{add-one}
-use Rattle.figures.specs.Figures.{leads_at, count_to, leads_of}
+use Rattle.figures.specs.Figures.{count_to, leads_of}
 use Rattle.figures.proofs.leads.Goals as goal
 use Rattle.figures.proofs.leads.Goals.{then-leads_at, else-leads_at}
 

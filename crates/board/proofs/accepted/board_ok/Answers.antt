@@ -5,7 +5,7 @@ use mathlib.Core.List.{List}
 use Prim.Native.Nat.{ℕ}
 use lib.ListN.{length-take, length-drop}
 use lib.Seq.{length-take-le}
-use borrow.Author.Tests.{eq-eqb, ne_eqb, not-false}
+use borrow.Author.Tests.{eq-eqb, ne_eqb}
 use Rattle.board_air.specs.Words.{air_in, kept_of, stations_in, air_ok, same_words, board_ok}
 use Rattle.board_anew.proofs.Parts.{rest_part}
 use native.Mathlib.Omega.{arith}

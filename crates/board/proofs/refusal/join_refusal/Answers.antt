@@ -7,7 +7,7 @@ use Rattle.board_air.specs.Words.{board_ok}
 use lib.ListN.{length}
 use lib.Seq.{length-take-le}
 use lib.Dec.{eqb}
-use borrow.Author.Tests.{le-leb, lt-leb, not-false}
+use borrow.Author.Tests.{le-leb, lt-leb}
 use Rattle.floats.proofs.Tests.{both}
 use Rattle.board_air.specs.Runs.{join_refusal}
 use Rattle.board.specs.Calls.{join_answer}

@@ -1,7 +1,6 @@
 -- `board::refusal::leave_refusal` meets its contract.
 use mathlib.Core.Path.{sym, ◌∙◌}
 use lib.Seq.{length-take-le}
-use borrow.Author.Tests.{not-false}
 use Rattle.board_air.specs.Runs.{leave_refusal}
 use Rattle.board.specs.Calls.{leave_answer}
 use Rattle.board_air.proofs.Reading.{on_read}

@@ -1,6 +1,6 @@
 -- `push_blanks`, a blank a turn. Assumes nothing.
 use mathlib.Core.Path.{◌≡◌, refl, ◌∙◌}
-use Prim.Native.Nat.{ℕ, ◌-◌}
+use Prim.Native.Nat.{ℕ}
 use native.Mathlib.Omega.{arith}
 use lib.ListN.{replicate-append-replicate}
 use Rattle.words.proofs.Writing.{then, wrote_none}

@@ -1,6 +1,6 @@
 -- `push_text`, a field a turn: there is room for the next. Assumes nothing.
 use mathlib.Core.Path.{◌≡◌, refl, ◌∙◌}
-use Prim.Native.Nat.{suc, ◌-◌}
+use Prim.Native.Nat.{suc}
 use native.Mathlib.Omega.{arith}
 use native.Mathlib.Numerals.{add-one}
 use Rattle.words.proofs.Writing.{then, wrote_none, within}
