@@ -1,5 +1,5 @@
 -- A mistake as numbers, for callers that keep its sentence in words of their own. Definitions only.
-use Rattle.std.specs.Prelude.{ℕ, min, cond, List, [], ◌∷◌}
+use Rattle.std.specs.Prelude.{ℕ, cond, List, [], ◌∷◌}
 use Rattle.fields.specs.declared.Kind.{Kind}
 use Rattle.card.specs.declared.mistakes.Fault.{Fault}
 use Rattle.card.specs.declared.mistakes.Fault.TheVariants.{Nothing, Unknown, Twice, Foreign, TooFew, TooMany, NotANumber, TooLarge, Limit, Missing}

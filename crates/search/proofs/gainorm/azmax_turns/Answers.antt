@@ -1,5 +1,5 @@
 -- `search::gainorm::azmax_turns` meets its contract.
-use Rattle.std.proofs.Common.{◌≡◌, ◌-◌, refl, add-one, arith}
+use Rattle.std.proofs.Common.{◌≡◌, refl, add-one, arith}
 use Rattle.search.specs.Turns.{turns, azmax_turn}
 use Rattle.search.proofs.gainorm.Readings.{azmax_reads}
 use Rattle.search.proofs.gainorm.azmax_turns.Goals as goal

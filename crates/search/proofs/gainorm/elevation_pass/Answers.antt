@@ -1,5 +1,5 @@
 -- `search::gainorm::elevation_pass` meets its contract.
-use Rattle.std.proofs.Common.{◌≡◌, ◌-◌, sym, refl, ◌∙◌, add-one, arith}
+use Rattle.std.proofs.Common.{◌≡◌, sym, refl, ◌∙◌, add-one, arith}
 use Rattle.pattern.proofs.passes.Entries.{up_at}
 use Rattle.search.specs.Search.{tallied, elevation_read}
 use Rattle.search.specs.Turns.{elevations_to}

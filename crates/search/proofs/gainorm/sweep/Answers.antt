@@ -1,5 +1,5 @@
 -- `search::gainorm::sweep` meets its contract.
-use Rattle.std.proofs.Common.{◌≡◌, ◌-◌, sym, refl, ap, ◌∙◌, add-one, arith}
+use Rattle.std.proofs.Common.{◌≡◌, sym, refl, ap, ◌∙◌, add-one, arith}
 use Rattle.search.specs.Search.{untold, tallied, sweep_read}
 use Rattle.search.specs.Turns.{turns, sweep_turn}
 use Rattle.search.specs.declared.gainorm.Tally.{Tally}
