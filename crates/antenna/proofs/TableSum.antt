@@ -1,5 +1,5 @@
 -- Laws of a table's sum: one float more, and a table laid over lent floats. Assumes nothing.
-use Rattle.std.proofs.Common.{◌≡◌, ℕ, suc, ◌+◌, ◌%◌, ◌^◌, ◌<◌, ◌≤◌, List, [], ◌∷◌, ◌++◌, length, get_or, take, sym, refl, ap, ◌∙◌, arith, take_all, take-suc}
+use Rattle.std.proofs.Common.{◌≡◌, ℕ, suc, ◌+◌, ◌%◌, ◌^◌, ◌<◌, ◌≤◌, List, [], ◌∷◌, ◌++◌, length, get_or, take, sym, ap, ◌∙◌, arith, take_all, take-suc}
 use mathlib.Core.List.{map-append}
 use lib.Seq.{take-length}
 use lib.Ieee.{Float, nan, binary32, to_bits}

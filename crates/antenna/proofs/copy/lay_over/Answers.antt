@@ -1,5 +1,5 @@
 -- `antenna::copy::lay_over` meets its contract.
-use Rattle.std.proofs.Common.{◌≡◌, ℕ, ◌+◌, ◌-◌, get_or, set, refl, ap, ◌∙◌, add-one, arith, length-set}
+use Rattle.std.proofs.Common.{◌≡◌, ℕ, ◌+◌, get_or, set, refl, ap, ◌∙◌, add-one, arith, length-set}
 use lib.Ieee.{nan}
 use lib.Seq.{paste, paste-zero, paste-suc}
 use Rattle.words.proofs.Laid.{laid_pasted}

@@ -1,5 +1,5 @@
 -- `antenna::sum::bits_total` adds one float a turn.
-use Rattle.std.proofs.Common.{◌≡◌, ℕ, ◌-◌, ◌%◌, ◌^◌, take, refl, ap, ◌∙◌, add-one, arith}
+use Rattle.std.proofs.Common.{◌≡◌, ℕ, ◌%◌, ◌^◌, take, refl, ap, ◌∙◌, add-one, arith}
 use Rattle.words.specs.Patterns.{bits}
 use Rattle.antenna.specs.TableSum.{total}
 use Rattle.antenna.proofs.TableSum.{sum-next}

@@ -1,6 +1,5 @@
 -- `set_up_why::why::lowest_slot`: no slot before the loop's breaks the limit.
 use mathlib.Core.Path.{◌≡◌, refl, sym, ◌∙◌}
-use Prim.Native.Nat.{◌-◌}
 use native.Mathlib.Omega.{arith}
 use Rattle.slots.proofs.Steps.{slot-breaks, slot_keeps, no_slot_left}
 use Rattle.set_up_why.specs.Why.{breaks}

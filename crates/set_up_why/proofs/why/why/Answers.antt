@@ -1,6 +1,5 @@
 -- `set_up_why::why::why`: no number before the loop's is broken.
 use mathlib.Core.Path.{refl, sym, ◌∙◌}
-use Prim.Native.Nat.{◌-◌}
 use native.Mathlib.Omega.{arith}
 use Rattle.slots.specs.Told.{told}
 use Rattle.slots.proofs.Steps.{number-broken, number-kept, no_number_left}
