@@ -1,7 +1,6 @@
 -- `plate_row::row::filled` meets its contract.
 use mathlib.Core.Path.{◌≡◌, refl}
 use native.Mathlib.Omega.{arith}
-use Prim.Native.Nat.{◌-◌}
 use native.Mathlib.Numerals.{add-one}
 use Rattle.pattern.proofs.passes.Entries.{around_at}
 use Rattle.antenna.specs.Gain.{number_at}
