@@ -8,7 +8,7 @@ use borrow.Author.Tests.{leb-true, eqb-false, lt-ltb}
 use lib.Arith.{lt_of_le-ne}
 use lib.Dec.{T, leb, ltb, eqb}
 use lib.Ieee.{Float, lt, le, ne, to_signed, of_bits}
-use Rattle.floats.specs.Ops.{◌⊕◌, ◌⊖◌, ◌⊘◌, count, +0}
+use Rattle.floats.specs.Ops.{◌⊕◌, ◌⊖◌, ◌⊘◌, +0}
 use Rattle.floats.specs.Literals.{one, two, ten, ninety}
 use Rattle.model.specs.declared.record.Model.{Model}
 use Rattle.floats.specs.Ranges.{between}

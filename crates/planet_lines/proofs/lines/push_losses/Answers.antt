@@ -1,5 +1,4 @@
 -- `planet_lines::lines::push_losses` meets its contract: the lines so far, of 12 bytes at most each. Assumes nothing.
-use Prim.Native.Nat.{◌-◌, ◌≤◌}
 use mathlib.Core.Path.{◌≡◌, refl, ◌∙◌}
 use native.Mathlib.Omega.{arith}
 use native.Mathlib.Numerals.{add-one}
