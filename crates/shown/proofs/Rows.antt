@@ -4,7 +4,7 @@ use mathlib.Core.Path.{◌≡◌, refl, sym, ap, ◌∙◌}
 use mathlib.Core.List.{List, [], ◌∷◌, map, map-append}
 use native.Mathlib.Omega.{arith}
 use lib.ListN.{length, get_or}
-use lib.IntN.{ℤ, pos, nat_abs, -ℤ-+ℤ_cancel}
+use lib.IntN.{pos, nat_abs, -ℤ-+ℤ_cancel}
 use Rattle.hundredths.specs.Raised.{lowered}
 use Rattle.shown.specs.InOrder.{up_to}
 use Rattle.shown.specs.Plate.{Entry, entry_at}

@@ -7,7 +7,7 @@ use lib.Ieee.{Float}
 use Rattle.floats.specs.Ops.{at}
 use Rattle.answers.specs.Outcome as outcome
 use Rattle.model.specs.Table.{table_size, blank_table}
-use Rattle.antenna.specs.Gain.{Kind, kind_of}
+use Rattle.antenna.specs.Gain.{kind_of}
 use Rattle.plate_row.specs.declared.row.PlateRow.{PlateRow}
 use Rattle.plate_row.specs.declared.row.PlateRow.TheVariants as row
 use Rattle.plate_row.specs.Row.{row_of, row_answer, row_after, written_after, numbers_of}

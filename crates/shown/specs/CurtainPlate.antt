@@ -1,5 +1,5 @@
 -- Issue 27: "A curtain's card is drawn too: its 360 levels with one factor". Document 01 says what a curtain answers in a direction; its `plate` refuses a curtain. Definitions only.
-use Rattle.std.specs.Prelude.{ℕ, ◌-◌, Bool, cond, not, ◌&&◌, List, ltb, Float}
+use Rattle.std.specs.Prelude.{ℕ, ◌-◌, cond, not, ◌&&◌, List, ltb, Float}
 use Rattle.std.specs.Float.Ieee.{neg, eq, to_unsigned}
 use Rattle.std.specs.Float.Ieee.Scale.{finite}
 use Rattle.floats.specs.Ops.{count, at}

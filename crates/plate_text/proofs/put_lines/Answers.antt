@@ -1,6 +1,5 @@
 -- `plate_text::put_lines` meets its contract: the lines so far, of 21 bytes at most each. Assumes nothing.
 use mathlib.Core.Path.{◌≡◌, refl, ◌∙◌}
-use Prim.Native.Nat.{◌-◌, ◌≤◌}
 use native.Mathlib.Omega.{arith}
 use native.Mathlib.Numerals.{add-one}
 use lib.Dec.{lit≤}

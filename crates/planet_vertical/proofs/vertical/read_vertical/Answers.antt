@@ -1,5 +1,4 @@
 -- `planet_vertical::vertical::read_vertical` meets its contract: the numbers so far stand in the lent floats. Assumes nothing.
-use Prim.Native.Nat.{◌-◌, ◌≤◌}
 use mathlib.Core.Path.{◌≡◌, refl, sym, ap, ◌∙◌}
 use native.Mathlib.Omega.{arith}
 use native.Mathlib.Numerals.{add-one}
