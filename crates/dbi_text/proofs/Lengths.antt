@@ -1,7 +1,7 @@
 -- How long a line is: at most 10 digits, 14 bytes of hundredths and 7 of a kind, with two spaces and a line feed. Assumes nothing.
 use Prim.Native.Nat.{ℕ, suc, ◌/◌, ◌≤◌}
 use native.Mathlib.Omega.{arith}
-use mathlib.Core.List.{List, [], ◌∷◌, ◌++◌}
+use mathlib.Core.List.{[]}
 use lib.ListN.{length, length-append}
 use lib.Dec.{lit≤}
 use lib.IntN.{ℤ, pos, negsuc}

@@ -1,5 +1,4 @@
 -- `dbi_text::lines::push_entries` meets its contract: the lines so far, of 34 bytes at most each. Assumes nothing.
-use Prim.Native.Nat.{◌-◌, ◌≤◌}
 use mathlib.Core.Path.{◌≡◌, refl, ◌∙◌}
 use native.Mathlib.Omega.{arith}
 use native.Mathlib.Numerals.{add-one}

@@ -1,6 +1,6 @@
 -- `svg_text::masts::read_mast` meets its contract. Assumes nothing.
-use mathlib.Core.Path.{◌≡◌, sym, ◌∙◌}
-use lib.ListN.{length, length-map}
+use mathlib.Core.Path.{◌≡◌, sym}
+use lib.ListN.{length}
 use Rattle.request.specs.Request.{and_then}
 use Rattle.heading.specs.Heading.{heading_answer}
 use Rattle.svg_text.specs.Drawn.{mast_answer}
