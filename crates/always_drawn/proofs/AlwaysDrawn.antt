@@ -1,13 +1,12 @@
 -- What is shown is drawn: no number of a plate is over 1,000 dBi. Assumes nothing.
 use Prim.Native.Nat.{ℕ, ◌≤◌, max}
-use mathlib.Core.Path.{◌≡◌, refl, sym, ap, ◌∙◌, subst}
-use mathlib.Core.Bool.{Bool, ◌&&◌}
+use mathlib.Core.Path.{◌≡◌, sym, ap, ◌∙◌, subst}
 use mathlib.Core.List.{List}
 use native.Mathlib.Omega.{arith}
 use borrow.Author.Tests.{le-ltb}
 use lib.IntN.{ℤ, negsuc}
-use lib.ListN.{get_or, get_or-map}
-use Rattle.answers.specs.Outcome.{Outcome, accepted}
+use lib.ListN.{get_or-map}
+use Rattle.answers.specs.Outcome.{accepted}
 use Rattle.answers.proofs.Outcome.{same}
 use Rattle.hundredths.specs.Raised.{raised_of}
 use Rattle.hundredths.proofs.Raised.{raised-le}
@@ -23,7 +22,7 @@ use Rattle.shown_laws.proofs.ShownLaw.{shown_law}
 use Rattle.picture.specs.Picture.{picture_in}
 use Rattle.pair.specs.Pair.{greater_peak, pair_in}
 use Rattle.svg_text.specs.Drawn.{Drawn, drawn_of}
-use Rattle.svg_text.specs.Svg.{caption_of, pictured, svg_in, beside_in, both_in, svg_two_in}
+use Rattle.svg_text.specs.Svg.{pictured, svg_in, beside_in, both_in, svg_two_in}
 use Rattle.always_drawn.specs.AlwaysDrawn.{AlwaysDrawn}
 
 -- ---- no number of a row is over 200,000

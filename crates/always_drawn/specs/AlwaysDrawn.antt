@@ -1,7 +1,6 @@
 -- Issue 27: "the plate as a picture", "both masts on one plate": what is shown is drawn, whole, where there is room. Definitions only.
 use Rattle.std.specs.Prelude.{ℕ, ◌≤◌, ◌≡◌, Bool, ◌&&◌, List}
 use Rattle.answers.specs.Outcome.{accepted}
-use Rattle.heading.specs.declared.Heading.{Heading}
 use Rattle.picture.specs.Picture.{picture_of}
 use Rattle.pair.specs.Pair.{pair_of}
 use Rattle.svg_text.specs.Drawn.{Drawn, drawn_of}
