@@ -52,6 +52,7 @@ fn main(rt: HostRuntime) -> io::Result<()> {
     if MOST < n {
         return rt.stderr().write_all(b"a card has at most 65,536 bytes\n");
     }
-    tell(&mut rt.stderr(), &text[..n])?;
-    write_station(&mut rt.stdout(), &text[..n])
+    let told = tell(&mut rt.stderr(), &text[..n]);
+    write_station(&mut rt.stdout(), &text[..n])?;
+    told
 }

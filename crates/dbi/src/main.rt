@@ -1,8 +1,8 @@
 #![tactic(auto)]
 
 // The program `dbi`: all of standard input in, its text out. `dbi_text::dbi` says what the text is; no
-// contract can say what is read or written. Where the input can't be read there is no text, and a line
-// on standard error. The stored run is `examples/type-7.station`.
+// contract can say what is read or written. Where the input can't be read there is no text, and the
+// error on standard error. The stored run is `examples/type-7.station`.
 use standard_input::{read_full, skip_rest};
 use std::io;
 use std::io::Write;

@@ -4,6 +4,7 @@ ghost use Rattle.std.specs.Prelude.{◌≡◌, ◌≤◌, ◌&&◌};
 ghost use Rattle.std.specs.Float.Ieee.{lt, le};
 ghost use Rattle.directions.specs.Azimuth.{back180, in_first, in_second, in_third, quadrant_of, behind_screen, signed, direction_of};
 
+use crate::turn::turned;
 use model::record::Direction;
 
 // Where the azimuth's sine and cosine stand in the tables, and whether each is negated.
@@ -64,14 +65,14 @@ pub fn quadrant_of(v: f32) -> Quadrant
 {
     if in_first(v) {
         return Quadrant {
-            jv: floats::rounding::ifix(v % 360.0),
+            jv: floats::rounding::ifix(turned(v)),
             an: false,
             bn: false,
         };
     }
     if in_second(v) {
         return Quadrant {
-            jv: back_from_180(v % 360.0),
+            jv: back_from_180(turned(v)),
             an: false,
             bn: true,
         };
@@ -116,6 +117,6 @@ pub fn direction_of<'a>(a: &'a [f32; 91], b: &'a [f32; 91], iu: usize, q: Quadra
 pub fn behind_screen(v: f32) -> bool
     ensures { result ≡ behind_screen v }
 {
-    let kv = numeric::float::to_i32(v % 360.0);
+    let kv = numeric::float::to_i32(turned(v));
     90 <= kv && kv <= 270
 }

@@ -5,3 +5,4 @@
 // specs/Azimuth.antt), for every azimuth. Theorems on it: `direction_mirror` and `screen_mirror`, of
 // the whole azimuths k and 360 - k (proofs/azimuth/Fold.antt).
 pub mod azimuth;
+mod turn;

@@ -5,14 +5,14 @@ use Rattle.directions.proofs.azimuth.quadrant_of.Goals as goal
 pub returns-then-in_first : goal.returns-then-in_first
 unfolding quadrant_of
 returns-then-in_first c = record {
-  value = rw (c.ifix.ensures.value, ← c.in_first.ensures, c.if-in_first.true);
+  value = rw (c.ifix.ensures.value, c.turned.ensures, ← c.in_first.ensures, c.if-in_first.true);
   jv_bound = c.ifix.ensures.upper_bound;
 }
 
 pub returns-then-in_second : goal.returns-then-in_second
 unfolding quadrant_of
 returns-then-in_second c = record {
-  value = rw (c.back_from_180.ensures.value, ← c.in_second.ensures, c.if-in_second.true, ← c.in_first.ensures, c.if-in_first.false);
+  value = rw (c.back_from_180.ensures.value, c.turned-then-in_second.ensures, ← c.in_second.ensures, c.if-in_second.true, ← c.in_first.ensures, c.if-in_first.false);
   jv_bound = c.back_from_180.ensures.upper_bound;
 }
 

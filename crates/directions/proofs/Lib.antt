@@ -1,0 +1,2 @@
+-- What `turn` rests on.
+mod Remainder
