@@ -31,7 +31,7 @@ def summary(head, parts):
     wide = sum(loss <= 3.0 for loss in around)
     return (
         f"{head['NAME']}, {head['FREQUENCY']} MHz, {head['GAIN']} at azimuth {ahead}, {wide} azimuths within 3 dB, "
-        f"{around[ahead - 180]:.2f} dB less the opposite way, the most at elevation {up.index(0.0)}"
+        f"{around[ahead - 180]:.2f} dB less behind, the most at elevation {up.index(0.0)}"
     )
 
 
