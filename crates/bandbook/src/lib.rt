@@ -8,7 +8,7 @@
 // Proved of the definitions, in the words of specs/Meaning.antt:
 //
 // - a book is accepted just where it is a good one: whole rows, at most 64, none bad, and each kHz
-//   of the span covered just once (`Good-book`, proofs/GoodBook.antt);
+//   of the span covered just once (`good_book`, proofs/GoodBook.antt);
 // - in a good book one row, and no other, covers a kHz of the span, and the lookup answers that
 //   row's id (`one-station`, proofs/OneStation.antt);
 // - a refusal's place is the first bad row, or the lowest kHz that no row covers or several do

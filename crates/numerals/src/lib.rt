@@ -1,7 +1,7 @@
 #![tactic(auto)]
 
 // Whole numbers as people write them: `numeral` (specs/Numeral.antt), decimal digits with no leading
-// zero. What is written reads back as the number (`IsNumeral-reads`), in at most ten digits
+// zero. What is written reads back as the number (`numeral_reads`), in at most ten digits
 // (`numeral-length`; proofs/Laws.antt).
 ghost use Rattle.std.specs.Prelude.{◌≡◌, ◌+◌, ◌%◌, ◌≤◌, length};
 ghost use Rattle.words.specs.Writing.{Wrote};

@@ -3,7 +3,7 @@
 // The station record: 225 bytes with a mode and 56 floats, and in edition 1 the type, read and
 // written. specs/Record.antt says what a record is, specs/Header.antt what its first bits are,
 // specs/Answers.antt what the reader and the writer answer. Reading and writing undo each other in
-// each edition (`read-written`, `Written-Read`, proofs/RoundTrip.antt).
+// each edition (`read-written`, `written_read`, proofs/RoundTrip.antt).
 pub mod fields;
 pub mod header;
 pub mod packed;
