@@ -10,7 +10,7 @@ use Rattle.answers.specs.Outcome.{accepted}
 use Rattle.answers.proofs.Outcome.{same}
 use Rattle.hundredths.specs.Raised.{raised_of}
 use Rattle.hundredths.proofs.Raised.{raised-le}
-use Rattle.antenna.specs.Gain.{level}
+use Rattle.answers.specs.declared.Kind.TheVariants.{Level}
 use Rattle.request.proofs.Then.{then_only}
 use Rattle.dial.specs.Scale.{peak_azimuth, peak_of}
 use Rattle.dial.proofs.Laws.{peak-place}
@@ -33,7 +33,7 @@ spanned-le s = subst (λ (z : ℤ). raised z ≤ 200000) (sym s.number) (raised-
 
 -- the entry that stands for none: its number is 0
 none : Entry
-none = (level, negsuc 99999)
+none = (Level, negsuc 99999)
 
 peak-le : (input : List ℕ) {entries : List Entry} → shown_of input ≡ accepted entries → peak_of (numbers_of entries) ≤ 200000
 unfolding peak_of numbers_of raised none

@@ -1,47 +1,53 @@
-// The numbers of the refusals of documents 01 and 02, by their names there. What an answer is stands in
+// The refusals of documents 01 and 02, by their names and numbers there. What an answer is stands in
 // specs/Outcome.antt, and the same numbers for definitions in specs/Refusals.antt.
 
 #![tactic(auto)]
 
-pub const RECORD: u8 = 1;
+ghost use Rattle.std.specs.Prelude.{◌≡◌};
+ghost use Rattle.answers.specs.Outcome.{number};
 
-// An input float isn't finite.
-pub const VALUE: u8 = 2;
+// Why a call refuses. The numbers are those that C callers see.
+#[derive(Clone, Copy, Debug, PartialEq, Eq)]
+pub enum Refusal {
+    Record = 1,
+    // An input float isn't finite.
+    Value = 2,
+    Type = 3,
+    Mode = 4,
+    Band = 5,
+    Count = 6,
+    Aim = 7,
+    Space = 8,
+    // A gain met in the search, or its peak, isn't finite.
+    Pattern = 9,
+    // The number asked for isn't finite.
+    Level = 10,
+    Calendar = 11,
+    // A row of a band book.
+    Row = 12,
+    Gap = 13,
+    Overlap = 14,
+    // A table that isn't the antenna record's.
+    Table = 15,
+    // A call on the board that can't be: no such id, already on, or not on.
+    Call = 16,
+    Full = 17,
+    // A number over 1,000 in size.
+    Span = 18,
+}
 
-pub const TYPE: u8 = 3;
+// What an answered number is: the pattern's, the floor of -30 dBi, or that of an antenna whose peak is 0.
+#[derive(Clone, Copy, Debug, PartialEq, Eq)]
+pub enum Kind {
+    Level,
+    Floor,
+    Silence,
+}
 
-pub const MODE: u8 = 4;
+impl From<Refusal> for u8 {
+    ghost from_gives = { λ r n. n ≡ number r };
 
-pub const BAND: u8 = 5;
-
-pub const COUNT: u8 = 6;
-
-pub const AIM: u8 = 7;
-
-pub const SPACE: u8 = 8;
-
-// A gain met in the search, or its peak, isn't finite.
-pub const PATTERN: u8 = 9;
-
-// The number asked for isn't finite.
-pub const LEVEL: u8 = 10;
-
-pub const CALENDAR: u8 = 11;
-
-// A row of a band book.
-pub const ROW: u8 = 12;
-
-pub const GAP: u8 = 13;
-
-pub const OVERLAP: u8 = 14;
-
-// A table that isn't the antenna record's.
-pub const TABLE: u8 = 15;
-
-// A call on the board that can't be: no such id, already on, or not on.
-pub const CALL: u8 = 16;
-
-pub const FULL: u8 = 17;
-
-// A number over 1,000 in size.
-pub const SPAN: u8 = 18;
+    fn from(r: Refusal) -> u8 {
+        r as u8
+    }
+}

@@ -1,5 +1,5 @@
 -- What is known of a gain or a row where no number was given, and that it is enough.
-use Rattle.std.proofs.Common.{◌≡◌, ℕ, ◌≤◌, Bool, true, false, not, ◌||◌, ltb, refl, arith, ltb-false, le-ltb}
+use Rattle.std.proofs.Common.{◌≡◌, ℕ, ◌≤◌, Bool, true, false, not, ◌||◌, ltb, refl, ltb-false, le-ltb}
 use borrow.Author.Tests.{not-false}
 use Rattle.floats.proofs.Tests.{next}
 use Rattle.model.specs.Counts.{counts_ok}
@@ -10,7 +10,7 @@ use Rattle.antenna.specs.Asked.{asked_refusal}
 use Rattle.antenna.specs.declared.asked.Asked.{Asked}
 
 neither : (p q : Bool) → (p || q) ≡ false → (p ≡ false) × (q ≡ false)
-neither true q h = let z : ◌≡◌ {A = ℕ} 0 1 = cc in absurd (omega arith)
+neither true q h = cc
 neither false q h = (refl, h)
 
 pub record Granted (m : Model) (size : ℕ) (q : Asked) : Type 0 where

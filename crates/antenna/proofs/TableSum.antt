@@ -1,7 +1,6 @@
 -- Laws of a table's sum: one float more, and a table laid over lent floats. Assumes nothing.
-use Rattle.std.proofs.Common.{◌≡◌, ℕ, suc, ◌+◌, ◌%◌, ◌^◌, ◌<◌, ◌≤◌, List, [], ◌∷◌, ◌++◌, length, get_or, take, sym, ap, ◌∙◌, arith, take_all, take-suc}
+use Rattle.std.proofs.Common.{◌≡◌, ℕ, suc, ◌+◌, ◌%◌, ◌^◌, ◌<◌, List, [], ◌∷◌, ◌++◌, length, get_or, take, sym, ap, ◌∙◌, arith, take_all, take-suc}
 use mathlib.Core.List.{map-append}
-use lib.Seq.{take-length}
 use lib.Ieee.{Float, nan, binary32, to_bits}
 use Rattle.words.specs.Laid.{laid}
 use Rattle.words.specs.Patterns.{bits}
@@ -26,11 +25,6 @@ total-next t i h =
 pub sum-next : (t : List Float) (i sum : ℕ) → i < length t → sum ≡ total (bits (take i t)) % 2 ^ 32
     → (sum + to_bits binary32 (get_or t i nan)) % 2 ^ 32 ≡ total (bits (take (suc i) t)) % 2 ^ 32
 sum-next t i sum h e = omega (arith, e, total-next t i h)
-
--- a table that is too short is summed whole
-pub sum-short : (t : List Float) → length t ≤ table_size → total (bits (take (length t) t)) % 2 ^ 32 ≡ table_sum t
-unfolding table_sum
-sum-short t h = ap (λ (l : List Float). total (bits l) % 2 ^ 32) (take-length t ∙ sym (take_all table_size t h))
 
 first-laid : (n : ℕ) (lent t : List Float) → length t ≡ n → take n (laid lent 0 t) ≡ take n t
 first-laid n lent t e = take-laid lent 0 t n (omega (arith, e)) (omega arith) ∙ sym (take_all n t (omega (arith, e)))

@@ -7,6 +7,8 @@ use Rattle.floats.specs.Ops.{◌⊕◌, ◌⊗◌, ◌⊘◌, +0}
 use Rattle.floats.specs.Literals.{twenty, thirty}
 use Rattle.model.specs.declared.record.Model.{Model}
 use Rattle.pattern.specs.Gainrel.{gain_rel}
+use Rattle.answers.specs.declared.Kind.{Kind}
+use Rattle.answers.specs.declared.Kind.TheVariants.{Level, Floor, Silence}
 use Rattle.answers.specs.Outcome.{Outcome, refused, accepted}
 use Rattle.answers.specs.Refusals.{LEVEL}
 use Rattle.antenna.specs.Literals.{floor_ratio}
@@ -15,7 +17,6 @@ use Rattle.antenna.specs.Asked.{asked_refusal}
 use Rattle.antenna.specs.declared.asked.Asked.{Asked}
 use Rattle.antenna.specs.declared.record.Antenna.{Antenna}
 use Rattle.antenna.specs.declared.gain.Gain.{Gain}
-use Rattle.antenna.specs.declared.gain.Gain.TheVariants.{Level, Floor, Silence, Refused}
 
 -- FLOOR, negated
 abbrev pub floor_level : Float
@@ -33,14 +34,9 @@ ratio_level dgs = cond (le dgs floor_ratio) floor_level (twenty ⊗ log10_of dgs
 unfoldable pub decibels_of : Float → Float → Float → Float
 decibels_of z9 z6 giso = cond (eq z6 +0) floor_level (floored (floored (ratio_level (z9 ⊘ z6)) ⊕ giso))
 
-pub data Kind : Type 0 where
-  level : Kind
-  floor : Kind
-  silence : Kind
-
 -- "Silence: a peak `z6` of 0. Floor: any other -30. Level: all else."
 unfoldable pub kind_of : Float → Float → Kind
-kind_of z6 g = cond (eq z6 +0) silence (cond (eq g floor_level) floor level)
+kind_of z6 g = cond (eq z6 +0) Silence (cond (eq g floor_level) Floor Level)
 
 -- a number that isn't finite is refused
 unfoldable pub graded : Float → Float → Outcome (Kind × Float)
@@ -60,9 +56,6 @@ gain_of a t u v giso =
     let number = asked_refusal a.model (length t) (gain_asked (own_table a t) u v giso) in
     cond (nat_lt 0 number) (refused number) (graded a.peak.z6 (number_at a.model a.peak.z6 t u v giso))
 
--- what each case of the answer says
-unfoldable pub gain_answer : Gain → Outcome (Kind × Float)
-gain_answer (Level g) = accepted (level, g)
-gain_answer (Floor g) = accepted (floor, g)
-gain_answer (Silence g) = accepted (silence, g)
-gain_answer (Refused n) = refused n
+-- what a gain says: its kind and its number
+abbrev pub told : Gain → Kind × Float
+told g = (g.kind, g.number)

@@ -24,8 +24,6 @@ use Rattle.search.specs.Search.{gainorm_of}
 use Rattle.antenna.specs.TableSum.{table_sum}
 use Rattle.antenna.specs.declared.record.Antenna.{Antenna}
 use Rattle.search.specs.declared.gainorm.Search.{Search}
-use Rattle.antenna.specs.declared.setup.Prepared.{Prepared}
-use Rattle.antenna.specs.declared.setup.Prepared.TheVariants.{Ready, Refused}
 use Rattle.antenna.specs.declared.setup.SetUp.{SetUp}
 
 -- `logparm`'s arguments for types 5 and 6
@@ -84,15 +82,11 @@ set_up_of p n =
     let number = refusal_of iant p n in
     cond (nat_lt 0 number) (refused number) (searched iant p)
 
--- what set-up's answer says: a refusal's number alone, or the antenna record and the reading count
-unfoldable pub set_up_answer : SetUp → Outcome (Antenna × ℕ)
-set_up_answer s = said s.answer s.antenna
-  where
-    said : Prepared → Antenna → Outcome (Antenna × ℕ)
-    said (Ready n) a = accepted (a, n)
-    said (Refused n) a = refused n
+-- what an accepted set-up says: the antenna record and the reading count
+abbrev pub set_up : SetUp → Antenna × ℕ
+set_up s = (s.antenna, s.readings)
 
--- an antenna of no type, which gain and row refuse: what stands beside a refusal
+-- an antenna of no type, which gain and row refuse: what `beside_of` names after a refusal
 unfoldable pub no_antenna : Antenna
 no_antenna = record {
   model = record {
@@ -114,7 +108,7 @@ no_antenna = record {
   sum = 0;
 }
 
--- the antenna record beside the answer
+-- the antenna record of an answer
 unfoldable pub beside_of : Outcome (Antenna × ℕ) → Antenna
 beside_of (refused n) = no_antenna
 beside_of (accepted a) = a.0

@@ -1,8 +1,10 @@
 // Why gain and row refuse before any number is computed. What both read, the antenna record and its
 // table, is tried here, once, in the order of the numbers: 15, which is tried before 10, is the last.
 ghost use Rattle.std.specs.Prelude.{◌≡◌};
+ghost use Rattle.answers.specs.Outcome.{number_of};
 ghost use Rattle.antenna.specs.Asked.{asked_refusal};
 
+use answers::Refusal;
 use model::counts::counts_ok;
 use model::record::Model;
 use model::table::SIZE;
@@ -18,27 +20,28 @@ pub struct Asked {
     pub own: bool,
 }
 
-// The first number, 0 where there is none, with a table of size floats. Inner step: of gain and row.
-pub fn refusal(m: Model, size: usize, asked: Asked) -> u8
-    ensures { result ≡ asked_refusal m size asked }
+// The first refusal, with a table of size floats. Inner step: of gain and row.
+#[tactic(auto, unfolding(crate::specs::Asked::asked_refusal))]
+pub fn check(m: Model, size: usize, asked: Asked) -> Result<(), Refusal>
+    ensures { number_of result ≡ asked_refusal m size asked }
 {
     if !asked.values {
-        return answers::VALUE;
+        return Err(Refusal::Value);
     }
     if !type_ok(m.iant) {
-        return answers::TYPE;
+        return Err(Refusal::Type);
     }
     if !counts_ok(m) {
-        return answers::COUNT;
+        return Err(Refusal::Count);
     }
     if !asked.aim {
-        return answers::AIM;
+        return Err(Refusal::Aim);
     }
     if (size < SIZE) | !asked.space {
-        return answers::SPACE;
+        return Err(Refusal::Space);
     }
     if !asked.own {
-        return answers::TABLE;
+        return Err(Refusal::Table);
     }
-    0
+    Ok(())
 }

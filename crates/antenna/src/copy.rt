@@ -3,13 +3,10 @@ ghost use Rattle.std.specs.Prelude.{◌≡◌, ◌≤◌, length};
 ghost use Rattle.words.specs.Laid.{laid};
 
 // Inner step: of set-up and row, once all their numbers exist.
+#[tactic(auto, unfolding(words::specs::Laid::laid))]
 pub fn lay_over(t: &[f32], lent: &mut [f32])
     requires { length t.now ≤ length lent.old }
     ensures { lent.new ≡ laid lent.old 0 t.now }
 {
-    let mut i: usize = 0;
-    while i < t.len() {
-        lent[i] = t[i];
-        i += 1;
-    }
+    lent[..t.len()].copy_from_slice(t);
 }

@@ -1,33 +1,21 @@
 // The sum by which a table is known to be the one that set-up left.
-ghost use Rattle.std.specs.Prelude.{◌≡◌, ◌%◌, ◌^◌, ◌≤◌, length, take, ◌==◌};
-ghost use Rattle.words.specs.Patterns.{bits};
-ghost use Rattle.antenna.specs.TableSum.{total, table_sum};
+ghost use Rattle.std.specs.Prelude.{◌≡◌, ◌==◌};
+ghost use Rattle.antenna.specs.TableSum.{table_sum};
 
 use model::table::SIZE;
 use numeric::bits::bits_of;
 
-// The first n floats' bits added up, modulo 2^32; the compiler adds eight in a turn.
-fn bits_total(table: &[f32], n: usize) -> u32
-    requires { n ≤ length table.now }
-    ensures { result ≡ total (bits (take n table.now)) % 2 ^ 32 }
-{
-    let mut sum: u32 = 0;
-    let mut i: usize = 0;
-    while i < n {
-        sum = std::num::wrapping_add_u32(sum, bits_of(table[i]));
-        i += 1;
-    }
-    sum
-}
-
-// A table's sum; one that is too short is refused for that first, whatever its sum is.
+// A table's sum, modulo 2^32; the compiler adds eight floats' bits in a turn. A table that is too short
+// is refused for that first, whatever its sum is.
+#[tactic(auto, unfolding(crate::specs::TableSum::total))]
 pub(crate) fn sum_of(table: &[f32]) -> u32
     ensures { result ≡ table_sum table.now }
 {
-    if table.len() < SIZE {
-        return bits_total(table, table.len());
+    let mut sum: u32 = 0;
+    for x in &table[..SIZE.min(table.len())] {
+        sum = sum.wrapping_add(bits_of(*x));
     }
-    bits_total(table, SIZE)
+    sum
 }
 
 // Whether a table has the sum of an antenna record. Inner step: of gain and row.

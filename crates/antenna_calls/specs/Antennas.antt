@@ -4,7 +4,8 @@ use Rattle.std.specs.Float.{binary32}
 use Rattle.std.specs.Float.Ieee.{to_bits}
 use Rattle.answers.specs.Outcome.{Outcome, refused, accepted}
 use Rattle.answers.specs.Refusals.{SPACE}
-use Rattle.antenna.specs.Gain.{Kind, gain_of}
+use Rattle.answers.specs.declared.Kind.{Kind}
+use Rattle.antenna.specs.Gain.{gain_of}
 use Rattle.plate_row.specs.Row.{row_of, row_after}
 use Rattle.antenna.specs.SetUp.{set_up_of, lent_after}
 use Rattle.antenna.specs.declared.record.Antenna.{Antenna}

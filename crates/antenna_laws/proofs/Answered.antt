@@ -14,7 +14,7 @@ use Rattle.floats.specs.Ranges.{between}
 use Rattle.words.specs.Laid.{laid}
 use Rattle.words.proofs.Laid.{laid-length}
 use Rattle.model.specs.Types.{jant_of, type_ok, log_periodic}
-use Rattle.model.specs.Counts.{elements_ok, counts_ok}
+use Rattle.model.specs.Counts.{counts_ok}
 use Rattle.model.specs.Limits.{slot}
 use Rattle.model.specs.Table.{table_size}
 use Rattle.ground.specs.Table.{table_of}
@@ -33,13 +33,12 @@ use Rattle.antenna.specs.declared.record.Antenna.{Antenna}
 use Rattle.antenna.proofs.Granted.{Granted, none-refused}
 use Rattle.antenna_laws.proofs.Outcomes.{accepted_only_when, accepted_model, accepted-sum}
 use Rattle.antenna.proofs.TableSum.{sum_laid}
-use Rattle.antenna.proofs.setup.Accepted.{accepted_limits, nel_bounds, constant_counts, counts_made}
+use Rattle.antenna.proofs.setup.Accepted.{accepted_limits, nel_bounds, none_listed, constant_counts, counts_made}
 
 by_family : (iant : ℕ) (p : List Float) (b : Bool) → log_periodic iant ≡ b → slots_ok iant p ≡ true
     → let e = (cond b (log_parm iant (nel_of p) (design_of p) (rlambda_of p) (beta_of p)) no_elements).elements in Listed e.iek e.nat
-unfolding no_elements elements_ok
 by_family iant p true t h = logparm_listed iant (nel_of p) (design_of p) (rlambda_of p) (beta_of p) (nel_bounds iant p t h).1
-by_family iant p false t h = record { few = omega arith; named = refl }
+by_family iant p false t h = none_listed
 
 listed : (iant : ℕ) (p : List Float) → slots_ok iant p ≡ true → let e = (elements_of iant p).elements in Listed e.iek e.nat
 unfolding elements_of
@@ -116,7 +115,7 @@ module _ (p lent : List Float) {a : Antenna} {n : ℕ} (h : set_up_of p (length 
       } in
       rw (none-refused a.model (length (lent_after p lent)) q asked)
 
--- the antenna beside a refusal of set-up is none: gain refuses it as 3
+-- the antenna that stands for a refusal of set-up is none: gain refuses it as 3
 pub no_antenna_refused : (t : List Float) (u v giso : Float) → finite u ≡ true → finite v ≡ true → finite giso ≡ true → gain_of no_antenna t u v giso ≡ refused TYPE
 unfolding gain_of gain_asked asked_refusal no_antenna type_ok
 no_antenna_refused t u v giso fu fv fg = rw (fu, fv, fg)

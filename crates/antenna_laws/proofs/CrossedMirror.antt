@@ -7,6 +7,7 @@ use mathlib.Core.List.{List}
 use native.Mathlib.Omega.{arith}
 use lib.Ieee.{Float, lt, of_bits}
 use lib.Ieee.Scale.{finite}
+use Rattle.answers.specs.declared.Kind.{Kind}
 use Rattle.answers.specs.Outcome.{Outcome, accepted}
 use Rattle.floats.specs.Ops.{count, +0}
 use Rattle.ground.specs.Table.{table_of}
@@ -18,7 +19,7 @@ use Rattle.pattern.proofs.CrossedMirror.{Bounded, gain_rel-not-below, gain_rel_c
 use Rattle.parameters.specs.Limits.{start_of}
 use Rattle.search.specs.Search.{gainorm_of}
 use Rattle.antenna.specs.SetUp.{model_of, set_up_of}
-use Rattle.antenna.specs.Gain.{Kind, graded, gain_asked, number_at, decibels_of, gain_of}
+use Rattle.antenna.specs.Gain.{graded, gain_asked, number_at, decibels_of, gain_of}
 use Rattle.antenna.specs.declared.record.Antenna.{Antenna}
 use Rattle.search.specs.declared.gainorm.Search.{Search}
 use Rattle.antenna_laws.proofs.CrossedTables.{tables_bounded}

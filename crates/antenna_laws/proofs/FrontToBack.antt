@@ -8,12 +8,13 @@ use lib.IntN.{pos}
 use lib.Ieee.{Float, to_signed}
 use lib.Ieee.Scale.{finite}
 use Rattle.floats.specs.Ops.{◌⊖◌, count, at}
+use Rattle.answers.specs.declared.Kind.{Kind}
 use Rattle.answers.specs.Outcome.{accepted}
 use Rattle.answers.proofs.Outcome.{same}
 use Rattle.model.specs.Limits.{slot}
 use Rattle.model.specs.Types.{jant_of}
 use Rattle.antenna.specs.SetUp.{set_up_of}
-use Rattle.antenna.specs.Gain.{Kind, gain_of}
+use Rattle.antenna.specs.Gain.{gain_of}
 use Rattle.plate_row.specs.Row.{numbers_of, larger, greatest, front_to_back, row_of}
 use Rattle.plate_row.specs.Greatest.{IsGreatest}
 use Rattle.antenna.specs.declared.record.Antenna.{Antenna}

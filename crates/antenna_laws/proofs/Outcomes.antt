@@ -13,6 +13,7 @@ use Rattle.model.specs.Types.{jant_of}
 use Rattle.floats.specs.Ranges.{all_finite}
 use Rattle.floats.proofs.Tests.{both}
 use Rattle.ground.specs.Table.{table_of}
+use Rattle.answers.specs.declared.Kind.{Kind}
 use Rattle.answers.specs.Outcome.{accepted}
 use Rattle.answers.proofs.Outcome.{passed, same}
 use Rattle.model.specs.Limits.{slot}
@@ -22,7 +23,7 @@ use Rattle.parameters.specs.Limits.{start_of, refusal_of}
 use Rattle.search.specs.Search.{gainorm_of}
 use Rattle.antenna.specs.SetUp.{model_of, search_refused, accepted_of, found, searched, set_up_of}
 use Rattle.antenna.specs.TableSum.{table_sum, own_table}
-use Rattle.antenna.specs.Gain.{Kind, graded, number_at, gain_asked, gain_of}
+use Rattle.antenna.specs.Gain.{graded, number_at, gain_asked, gain_of}
 use Rattle.plate_row.specs.Row.{numbers_of, front_to_back, measured, row_asked, row_of}
 use Rattle.antenna.specs.declared.record.Antenna.{Antenna}
 use Rattle.search.specs.declared.gainorm.Search.{Search}

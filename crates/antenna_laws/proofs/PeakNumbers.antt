@@ -13,6 +13,7 @@ use lib.Seq.{take-length}
 use lib.Ieee.{Float, binary32, le, fits}
 use lib.Ieee.Bits.{is_true}
 use lib.Ieee.Scale.{finite}
+use Rattle.answers.specs.declared.Kind.{Kind}
 use Rattle.answers.specs.Outcome.{accepted}
 use Rattle.floats.specs.Ops.{◌⊕◌, ◌⊖◌, +0}
 use Rattle.floats.specs.Literals.{one}
@@ -27,7 +28,7 @@ use Rattle.ground.specs.Table.{table_of}
 use Rattle.ground.proofs.Laws.{table_length}
 use Rattle.pattern.specs.Gainrel.{gain_rel}
 use Rattle.pattern.proofs.gainrel.TableStart.{gain_rel_table}
-use Rattle.antenna.specs.Gain.{Kind, floor_level, kind_of, graded, number_at, decibels_of, gain_of}
+use Rattle.antenna.specs.Gain.{floor_level, kind_of, graded, number_at, decibels_of, gain_of}
 use Rattle.parameters.specs.Limits.{start_of}
 use Rattle.search.specs.Literals.{five}
 use Rattle.plate_row.specs.Row.{larger}

@@ -2,9 +2,10 @@
 use mathlib.Core.Path.{◌≡◌, refl, sym, ap, ◌∙◌}
 use mathlib.Core.List.{List, [], ◌∷◌, map}
 use Prim.Native.Nat.{ℕ, zero, suc, ◌+◌}
-use lib.ListN.{length, get_or, take, drop, length-append}
+use lib.ListN.{length, get_or, take, drop, length-append, length-map}
 use native.Mathlib.Nat.{add-zero}
-use lib.Seq.{take_at, drop-append-add, get_or-drop}
+use native.Mathlib.Omega.{arith}
+use lib.Seq.{take_all, take_at, drop-append-add, get_or-drop}
 use lib.Ieee.{Float, binary32, of_bits}
 use Rattle.words.specs.Patterns.{bits, floats, part, F32s}
 use Rattle.words.proofs.BitsBack.{bits_back}
@@ -65,3 +66,7 @@ word_field ss {sizes} e k one =
     first : (l : List ℕ) → get_or l 0 0 ≡ get_or (take 1 l) 0 0
     first [] = refl
     first (x ∷ l) = refl
+
+-- as many floats as there are words
+pub whole : (ws : List ℕ) → length ws ≡ 998 → take 998 (floats ws) ≡ floats ws
+whole ws e = take_all 998 (floats ws) (omega (arith, length-map ws (of_bits binary32)))

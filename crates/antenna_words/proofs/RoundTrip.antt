@@ -11,7 +11,7 @@ use Rattle.words.specs.Patterns.{floats, part}
 use Rattle.antenna_words.specs.Fields.{antenna_size, low, flag, constant_floats, joined, head_fields, element_fields, trig_fields, ground_fields, peak_fields, antenna_fields, antenna_words}
 use Rattle.antenna_words.specs.Reading.{constants_of, elements_of, trig_of, ground_of, peak_of, antenna_of, antenna_in}
 use Rattle.antenna_words.specs.Held.{Held, CountsAreWords}
-use Rattle.antenna_words.proofs.Lengths.{bits-length}
+use Rattle.antenna_words.proofs.Lengths.{bits_length}
 use Rattle.antenna_words.proofs.Places.{total, joined_length, field, floats_field, word_field}
 
 abbrev sizes : List ℕ
@@ -23,7 +23,7 @@ sized a h =
     let e = h.elements in
     let t = h.trig in
     let g = h.ground in
-    rw (bits-length a.model.elements.fi e.fi.long, bits-length a.model.elements.rim e.rim.long, bits-length a.model.elements.x e.x.long, bits-length a.model.elements.y e.y.long, length-map a.model.elements.iek low, e.iek, bits-length a.model.elements.rl e.rl.long, bits-length a.model.elements.h e.h.long, bits-length a.model.trig.a t.a.long, bits-length a.model.trig.b t.b.long, bits-length a.model.ground.w3 g.w3.long, bits-length a.model.ground.w4 g.w4.long, bits-length a.model.ground.w5 g.w5.long, bits-length a.model.ground.w6 g.w6.long, bits-length a.model.ground.w9 g.w9.long, bits-length a.model.ground.w10 g.w10.long)
+    rw (bits_length a.model.elements.fi, e.fi.long, bits_length a.model.elements.rim, e.rim.long, bits_length a.model.elements.x, e.x.long, bits_length a.model.elements.y, e.y.long, length-map a.model.elements.iek low, e.iek, bits_length a.model.elements.rl, e.rl.long, bits_length a.model.elements.h, e.h.long, bits_length a.model.trig.a, t.a.long, bits_length a.model.trig.b, t.b.long, bits_length a.model.ground.w3, g.w3.long, bits_length a.model.ground.w4, g.w4.long, bits_length a.model.ground.w5, g.w5.long, bits_length a.model.ground.w6, g.w6.long, bits_length a.model.ground.w9, g.w9.long, bits_length a.model.ground.w10, g.w10.long)
 
 pub words-length : (a : Antenna) → Held a → length (antenna_words a) ≡ antenna_size
 unfolding antenna_words

@@ -8,28 +8,18 @@ pub(crate) fn put_counts(out: &mut [u32], at: usize, ns: &[usize])
     requires { at + length ns.now ≤ length out.old }
     ensures { out.new ≡ laid out.old at (map low ns.now) }
 {
-    let mut i: usize = 0;
-    while i < ns.len() {
-        out[at + i] = (ns[i] % 0x1_0000_0000) as u32;
-        i += 1;
+    for (i, n) in ns.iter().enumerate() {
+        out[at + i] = (*n % 0x1_0000_0000) as u32;
     }
 }
 
-// A word as a count.
-pub(crate) fn count_of(word: u32) -> usize
-    ensures { result ≡ word }
-{
-    word as usize
-}
-
 // Reads counts over all of out, from word `at` on.
+#[tactic(auto, using(words::proofs::Copies::copied_none, words::proofs::Copies::copied_more, words::proofs::Copies::copied_all))]
 pub(crate) fn read_counts(words: &[u32], at: usize, out: &mut [usize])
     requires { at + length out.old ≤ length words.now }
     ensures { out.new ≡ part words.now at (length out.old) }
 {
-    let mut i: usize = 0;
-    while i < out.len() {
-        out[i] = count_of(words[at + i]);
-        i += 1;
+    for i in 0..out.len() {
+        out[i] = words[at + i] as usize;
     }
 }

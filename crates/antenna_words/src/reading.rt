@@ -1,15 +1,17 @@
 // The antenna record in words.
 ghost use Rattle.std.specs.Prelude.{◌≡◌, ◌+◌, ◌≤◌, length};
-ghost use Rattle.words.specs.Patterns.{floats, part};
+ghost use Rattle.words.specs.Patterns.{floats};
 ghost use Rattle.antenna_words.specs.Reading.{constants_of, elements_of, trig_of, ground_of, peak_of, antenna_of, antenna_in};
 
-use crate::counts::{count_of, read_counts};
+use crate::counts::read_counts;
 use antenna::record::Antenna;
 use model::record::{Constants, Elements, Ground, Model, Trig};
+use packed::arrays::floats_at;
 use search::record::Peak;
-use words::patterns::{copy_part, read_bits};
+use words::patterns::read_bits;
 
 // All words as floats, in one go: the counts among them are read from the words.
+#[tactic(auto, using(crate::proofs::Places::whole))]
 fn all_floats(words: &[u32]) -> [f32; 998]
     requires { length words.now ≡ 998 }
     ensures { result ≡ floats words.now }
@@ -19,60 +21,7 @@ fn all_floats(words: &[u32]) -> [f32; 998]
     out
 }
 
-fn floats_3(fs: &[f32], at: usize) -> [f32; 3]
-    requires { at + 3 ≤ length fs.now }
-    ensures { result ≡ part fs.now at 3 }
-{
-    let mut out = [0.0f32; 3];
-    copy_part(fs, at, &mut out);
-    out
-}
-
-fn floats_16(fs: &[f32], at: usize) -> [f32; 16]
-    requires { at + 16 ≤ length fs.now }
-    ensures { result ≡ part fs.now at 16 }
-{
-    let mut out = [0.0f32; 16];
-    copy_part(fs, at, &mut out);
-    out
-}
-
-fn floats_31(fs: &[f32], at: usize) -> [f32; 31]
-    requires { at + 31 ≤ length fs.now }
-    ensures { result ≡ part fs.now at 31 }
-{
-    let mut out = [0.0f32; 31];
-    copy_part(fs, at, &mut out);
-    out
-}
-
-fn floats_36(fs: &[f32], at: usize) -> [f32; 36]
-    requires { at + 36 ≤ length fs.now }
-    ensures { result ≡ part fs.now at 36 }
-{
-    let mut out = [0.0f32; 36];
-    copy_part(fs, at, &mut out);
-    out
-}
-
-fn floats_91(fs: &[f32], at: usize) -> [f32; 91]
-    requires { at + 91 ≤ length fs.now }
-    ensures { result ≡ part fs.now at 91 }
-{
-    let mut out = [0.0f32; 91];
-    copy_part(fs, at, &mut out);
-    out
-}
-
-fn counts_36(words: &[u32], at: usize) -> [usize; 36]
-    requires { at + 36 ≤ length words.now }
-    ensures { result ≡ part words.now at 36 }
-{
-    let mut out = [0; 36];
-    read_counts(words, at, &mut out);
-    out
-}
-
+#[tactic(auto, unfolding(crate::specs::Reading::constants_of))]
 fn constants_of(k: [f32; 16]) -> Constants
     ensures { result ≡ constants_of k }
 {
@@ -96,46 +45,52 @@ fn constants_of(k: [f32; 16]) -> Constants
     }
 }
 
+#[tactic(auto, unfolding(crate::specs::Reading::elements_of))]
 fn elements_of(words: &[u32], fs: &[f32]) -> Elements
     requires { (length words.now ≡ 998) × (length fs.now ≡ 998) }
     ensures { result ≡ elements_of words.now fs.now }
 {
+    let mut iek = [0; 36];
+    read_counts(words, 162, &mut iek);
     Elements {
-        fi: floats_36(fs, 18),
-        rim: floats_36(fs, 54),
-        x: floats_36(fs, 90),
-        y: floats_36(fs, 126),
-        iek: counts_36(words, 162),
-        rl: floats_36(fs, 198),
-        h: floats_31(fs, 234),
-        nat: count_of(words[265]),
+        fi: floats_at(fs, 18),
+        rim: floats_at(fs, 54),
+        x: floats_at(fs, 90),
+        y: floats_at(fs, 126),
+        iek,
+        rl: floats_at(fs, 198),
+        h: floats_at(fs, 234),
+        nat: words[265] as usize,
     }
 }
 
+#[tactic(auto, unfolding(crate::specs::Reading::trig_of))]
 fn trig_of(fs: &[f32]) -> Trig
     requires { length fs.now ≡ 998 }
     ensures { result ≡ trig_of fs.now }
 {
     Trig {
-        a: floats_91(fs, 266),
-        b: floats_91(fs, 357),
+        a: floats_at(fs, 266),
+        b: floats_at(fs, 357),
     }
 }
 
+#[tactic(auto, unfolding(crate::specs::Reading::ground_of))]
 fn ground_of(fs: &[f32]) -> Ground
     requires { length fs.now ≡ 998 }
     ensures { result ≡ ground_of fs.now }
 {
     Ground {
-        w3: floats_91(fs, 448),
-        w4: floats_91(fs, 539),
-        w5: floats_91(fs, 630),
-        w6: floats_91(fs, 721),
-        w9: floats_91(fs, 812),
-        w10: floats_91(fs, 903),
+        w3: floats_at(fs, 448),
+        w4: floats_at(fs, 539),
+        w5: floats_at(fs, 630),
+        w6: floats_at(fs, 721),
+        w9: floats_at(fs, 812),
+        w10: floats_at(fs, 903),
     }
 }
 
+#[tactic(auto, unfolding(crate::specs::Reading::peak_of))]
 fn peak_of(k: [f32; 3]) -> Peak
     ensures { result ≡ peak_of k }
 {
@@ -147,32 +102,28 @@ fn peak_of(k: [f32; 3]) -> Peak
 }
 
 // The record by its words and by their floats.
+#[tactic(auto, unfolding(crate::specs::Reading::antenna_of))]
 fn antenna_of(words: &[u32], fs: &[f32]) -> Antenna
     requires { (length words.now ≡ 998) × (length fs.now ≡ 998) }
     ensures { result ≡ antenna_of words.now fs.now }
 {
-    let constants = constants_of(floats_16(fs, 2));
-    let elements = elements_of(words, fs);
-    let trig = trig_of(fs);
-    let ground = ground_of(fs);
-    let model = Model {
-        iant: words[0],
-        slewed: words[1] != 0,
-        constants,
-        elements,
-        trig,
-        ground,
-    };
-    let peak = peak_of(floats_3(fs, 994));
     Antenna {
-        model,
-        peak,
+        model: Model {
+            iant: words[0],
+            slewed: words[1] != 0,
+            constants: constants_of(floats_at(fs, 2)),
+            elements: elements_of(words, fs),
+            trig: trig_of(fs),
+            ground: ground_of(fs),
+        },
+        peak: peak_of(floats_at(fs, 994)),
         sum: words[997],
     }
 }
 
 // The antenna record in 998 words, whatever they are. An inner step: the caller sees that there are
 // so many.
+#[tactic(auto, unfolding(crate::specs::Reading::antenna_in))]
 pub fn antenna_in(words: &[u32]) -> Antenna
     requires { length words.now ≡ 998 }
     ensures { result ≡ antenna_in words.now }

@@ -22,6 +22,7 @@ fn put_floats(out: &mut [u32], at: usize, xs: &[f32])
 }
 
 // Two lists of floats, one behind the other.
+#[tactic(auto, using(words::proofs::Laid::laid_more, crate::proofs::Lengths::bits_length))]
 fn put_pair(out: &mut [u32], at: usize, xs: &[f32], ys: &[f32])
     requires { at + (length xs.now + length ys.now) ≤ length out.old }
     ensures out_after { out.new ≡ laid out.old at (bits xs.now ++ bits ys.now) }
@@ -53,34 +54,29 @@ fn put_head(out: &mut [u32], iant: u32, slewed: bool, k: Constants)
 }
 
 // The elements' phases, currents and places.
+#[tactic(auto, using(words::proofs::Laid::laid_more, crate::proofs::Lengths::pair_length))]
 fn put_currents(out: &mut [u32], e: Elements)
     requires { length out.old ≡ 998 }
     ensures out_after { out.new ≡ laid out.old 18 (bits e.fi ++ bits e.rim ++ (bits e.x ++ bits e.y)) }
     ensures f32s { F32s e.fi × F32s e.rim × F32s e.x × F32s e.y }
 {
-    let fi = e.fi;
-    let rim = e.rim;
-    put_pair(out, 18, &fi, &rim);
-    let x = e.x;
-    let y = e.y;
-    put_pair(out, 90, &x, &y);
+    put_pair(out, 18, &e.fi, &e.rim);
+    put_pair(out, 90, &e.x, &e.y);
 }
 
 // The active elements' numbers, all lengths and heights, and how many are active.
+#[tactic(auto, using(words::proofs::Laid::laid_more, crate::proofs::Lengths::pair_length, crate::proofs::Lengths::counts_length, crate::proofs::Lengths::pairs_length))]
 fn put_active(out: &mut [u32], e: Elements)
     requires { length out.old ≡ 998 }
     ensures out_after { out.new ≡ laid out.old 162 (map low e.iek ++ (bits e.rl ++ bits e.h ++ (low e.nat ∷ []))) }
     ensures f32s { F32s e.rl × F32s e.h }
 {
-    let iek = e.iek;
-    put_counts(out, 162, &iek);
-    let rl = e.rl;
-    let h = e.h;
-    put_pair(out, 198, &rl, &h);
-    let nat = [e.nat];
-    put_counts(out, 265, &nat);
+    put_counts(out, 162, &e.iek);
+    put_pair(out, 198, &e.rl, &e.h);
+    put_counts(out, 265, &[e.nat]);
 }
 
+#[tactic(auto, using(words::proofs::Laid::laid_more, crate::proofs::Lengths::pair_length, crate::proofs::Lengths::pairs_length, crate::proofs::Lengths::elements_joined))]
 fn put_elements(out: &mut [u32], e: Elements)
     requires { length out.old ≡ 998 }
     ensures out_after { out.new ≡ laid out.old 18 (joined (element_fields e)) }
@@ -90,32 +86,27 @@ fn put_elements(out: &mut [u32], e: Elements)
     put_active(out, e);
 }
 
+#[tactic(auto, unfolding(crate::specs::Fields::joined, crate::specs::Fields::trig_fields))]
 fn put_trig(out: &mut [u32], t: Trig)
     requires { length out.old ≡ 998 }
     ensures out_after { out.new ≡ laid out.old 266 (joined (trig_fields t)) }
     ensures held_trig { HeldTrig t }
 {
-    let a = t.a;
-    let b = t.b;
-    put_pair(out, 266, &a, &b);
+    put_pair(out, 266, &t.a, &t.b);
 }
 
+#[tactic(auto, using(words::proofs::Laid::laid_more, crate::proofs::Lengths::pair_length, crate::proofs::Lengths::pairs_length, crate::proofs::Lengths::ground_joined))]
 fn put_ground(out: &mut [u32], g: Ground)
     requires { length out.old ≡ 998 }
     ensures out_after { out.new ≡ laid out.old 448 (joined (ground_fields g)) }
     ensures held_ground { HeldGround g }
 {
-    let w3 = g.w3;
-    let w4 = g.w4;
-    put_pair(out, 448, &w3, &w4);
-    let w5 = g.w5;
-    let w6 = g.w6;
-    put_pair(out, 630, &w5, &w6);
-    let w9 = g.w9;
-    let w10 = g.w10;
-    put_pair(out, 812, &w9, &w10);
+    put_pair(out, 448, &g.w3, &g.w4);
+    put_pair(out, 630, &g.w5, &g.w6);
+    put_pair(out, 812, &g.w9, &g.w10);
 }
 
+#[tactic(auto, using(words::proofs::Laid::laid_more, crate::proofs::Lengths::trig_length))]
 fn put_tables(out: &mut [u32], t: Trig, g: Ground)
     requires { length out.old ≡ 998 }
     ensures out_after { out.new ≡ laid out.old 266 (joined (trig_fields t) ++ joined (ground_fields g)) }
@@ -130,8 +121,7 @@ fn put_peak(out: &mut [u32], p: Peak)
     ensures out_after { out.new ≡ laid out.old 994 (bits (p.z6 ∷ p.umax ∷ p.vmax ∷ [])) }
     ensures f32s { F32s (p.z6 ∷ p.umax ∷ p.vmax ∷ []) }
 {
-    let floats = [p.z6, p.umax, p.vmax];
-    put_floats(out, 994, &floats);
+    put_floats(out, 994, &[p.z6, p.umax, p.vmax]);
 }
 
 // Writes the record over all 998 words. Reading them gives the record back. An inner step: the caller

@@ -8,9 +8,9 @@ use borrow.Author.Tests.{ne_eqb, not-false, leb-false, lt-leb}
 use lib.Dec.{eqb, leb}
 use lib.ListN.{length}
 use Rattle.answers.specs.Refusals.{GAP, OVERLAP}
-use Rattle.bandbook.specs.declared.Answer.TheVariants.{Accepted, RefusedAt}
+use Rattle.bandbook.specs.Answers.{accepted, refused_at}
 use Rattle.bandbook.specs.declared.rows.Row.{Row}
-use Rattle.bandbook.specs.declared.rows.Found.TheVariants.{At, Nowhere}
+use Rattle.std.proofs.Common.{Some, None}
 use Rattle.bandbook.specs.Rows.{row, row_ok, bad_row}
 use Rattle.bandbook.specs.Coverage.{covering}
 use Rattle.bandbook.specs.Book.{first_bad_row, bad_khz, lowest_bad_khz, khz_fault, khz_answer}
@@ -32,11 +32,11 @@ module _ (rows : List Row) where
   unfolding bad_row
   good-row i h e = rw (lt-leb 64 i h, e)
 
-  pub row-found : (i : ℕ) → i < length rows → NoneTo (bad_row rows) 0 i → bad_row rows i ≡ true → first_bad_row rows ≡ At i
+  pub row-found : (i : ℕ) → i < length rows → NoneTo (bad_row rows) 0 i → bad_row rows i ≡ true → first_bad_row rows ≡ Some i
   unfolding first_bad_row
   row-found i h none e = first_found (bad_row rows) (length rows) 0 (record { from = omega arith; up_to = omega arith; passes = e; none = none })
 
-  pub no_row_found : NoneTo (bad_row rows) 0 (length rows) → first_bad_row rows ≡ Nowhere
+  pub no_row_found : NoneTo (bad_row rows) 0 (length rows) → first_bad_row rows ≡ None
   unfolding first_bad_row
   no_row_found none = none_found (bad_row rows) (length rows) 0 (λ i l u. none i l (omega arith))
 
@@ -45,10 +45,10 @@ module _ (rows : List Row) where
   once-good khz e = rw e
 
   pub khz_found : (khz : ℕ) → 2000 ≤ khz → khz < 30000 → NoneTo (bad_khz rows) 2000 khz → (covering rows khz ≡ 1 → ⊥)
-      → khz_answer rows ≡ RefusedAt (cond (eqb (covering rows khz) 0) GAP OVERLAP) khz
+      → khz_answer rows ≡ refused_at (cond (eqb (covering rows khz) 0) GAP OVERLAP) khz
   unfolding bad_khz lowest_bad_khz khz_fault
   khz_found khz l u none n = ap (khz_fault rows) (first_found (bad_khz rows) 28000 2000 (record { from = l; up_to = omega arith; passes = rw (ne_eqb _ _ n); none = none }))
 
-  pub no_khz_found : NoneTo (bad_khz rows) 2000 30000 → khz_answer rows ≡ Accepted 0
+  pub no_khz_found : NoneTo (bad_khz rows) 2000 30000 → khz_answer rows ≡ accepted 0
   unfolding lowest_bad_khz khz_fault
   no_khz_found none = ap (khz_fault rows) (none_found (bad_khz rows) 28000 2000 none)

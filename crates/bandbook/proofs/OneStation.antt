@@ -6,7 +6,7 @@ use mathlib.Core.Bool.{Bool, true, false}
 use mathlib.Core.List.{List, [], ◌∷◌}
 use borrow.Author.Tests.{lt-ltb, le-leb}
 use lib.ListN.{length}
-use Rattle.bandbook.specs.declared.Answer.TheVariants.{Accepted}
+use Rattle.bandbook.specs.Answers.{accepted}
 use Rattle.bandbook.specs.declared.rows.Row.{Row}
 use Rattle.bandbook.specs.Rows.{rows_in, row}
 use Rattle.bandbook.specs.Coverage.{covers, covering, station_at}
@@ -58,5 +58,5 @@ one-station words good khz l u =
     record {
       place = found.place;
       only = found.only;
-      answer = rw ((good_book words).1 good, le-leb 2000 khz l, lt-ltb khz 30000 u) (ap Accepted found.station);
+      answer = rw ((good_book words).1 good, le-leb 2000 khz l, lt-ltb khz 30000 u) (ap accepted found.station);
     }

@@ -9,11 +9,9 @@ use mathlib.Core.List.{List, Permᴰ}
 use borrow.Author.Tests.{le-ltb, le-leb, lt-leb}
 use lib.Dec.{eqb}
 use lib.ListN.{length}
-use Rattle.bandbook.specs.declared.Answer.{Answer}
-use Rattle.bandbook.specs.declared.Answer.TheVariants.{Accepted, Refused, RefusedAt}
+use Rattle.bandbook.specs.Answers.{Answer, accepted, refused, refused_at}
 use Rattle.bandbook.specs.declared.rows.Row.{Row}
-use Rattle.bandbook.specs.declared.rows.Found.{Found}
-use Rattle.bandbook.specs.declared.rows.Found.TheVariants.{At, Nowhere}
+use Rattle.std.proofs.Common.{Option, Some, None}
 use Rattle.bandbook.specs.Rows.{rows_in}
 use Rattle.bandbook.specs.Coverage.{covering}
 use Rattle.bandbook.specs.Least.{least}
@@ -32,9 +30,9 @@ module _ {a b : List Row} (p : Permᴰ a b) where
   unfolding khz_fault
   khz_order = ap (khz_fault a) lowest_order ∙ go (lowest_bad_khz b)
     where
-      go : (f : Found) → khz_fault a f ≡ khz_fault b f
-      go Nowhere = refl
-      go (At khz) = rw (covering_order khz p)
+      go : (f : Option ℕ) → khz_fault a f ≡ khz_fault b f
+      go None = refl
+      go (Some khz) = rw (covering_order khz p)
 
   rows_order : GoodRows a → rows_answer a ≡ rows_answer b
   unfolding row_fault
@@ -50,7 +48,7 @@ module _ {a b : List Row} (p : Permᴰ a b) where
       go (no n) h = rw (lt-leb 2000 khz (omega arith))
 
 module _ (a b : List ℕ) (wa : length a % 3 ≡ 0) (wb : length b % 3 ≡ 0) where
-  both-bad : {i j : ℕ} → first_bad_row (rows_in a) ≡ At i → first_bad_row (rows_in b) ≡ At j → Alike a b
+  both-bad : {i j : ℕ} → first_bad_row (rows_in a) ≡ Some i → first_bad_row (rows_in b) ≡ Some j → Alike a b
   unfolding row_fault
   both-bad {i} {j} e d = both_bad {i = i} {j = j} (whole_book a wa ∙ rw e) (whole_book b wb ∙ rw d)
 
@@ -63,17 +61,17 @@ module _ (a b : List ℕ) (wa : length a % 3 ≡ 0) (wb : length b % 3 ≡ 0) wh
         same = whole_book a wa ∙ rows_order p good ∙ sym (whole_book b wb)
 
         go : (x : Answer) → book_of b ≡ x → (khz : ℕ) → after_book x (rows_in a) khz ≡ after_book x (rows_in b) khz
-        go (Accepted n) e = looked_up_order p (accepted-good a (same ∙ e)).once
-        go (Refused n) e = λ khz. refl
-        go (RefusedAt n place) e = λ khz. refl
+        go (accepted n) e = looked_up_order p (accepted-good a (same ∙ e)).once
+        go (refused n) e = λ khz. refl
+        go (refused_at n place) e = λ khz. refl
 
     -- the same rows in another order: both books have a bad row, or every answer is the same
     pub order_free : Alike a b
     order_free = go (first_bad_row (rows_in a)) (first_bad_row (rows_in b)) refl refl
       where
-        go : (f g : Found) → first_bad_row (rows_in a) ≡ f → first_bad_row (rows_in b) ≡ g → Alike a b
-        go Nowhere g e d = alike (none-bad (rows_in a) e)
-        go (At i) (At j) e d = both-bad e d
-        go (At i) Nowhere e d =
+        go : (f g : Option ℕ) → first_bad_row (rows_in a) ≡ f → first_bad_row (rows_in b) ≡ g → Alike a b
+        go None g e d = alike (none-bad (rows_in a) e)
+        go (Some i) (Some j) e d = both-bad e d
+        go (Some i) None e d =
             let good = bad-none (rows_in a) (good_order (Permᴰ.symm p) (none-bad (rows_in b) d)) in
             absurd (apart (cc))

@@ -10,10 +10,9 @@ use borrow.Author.Tests.{lt-leb, eqb-true, eqb-false, not-true}
 use lib.Dec.{eqb}
 use lib.ListN.{length}
 use Rattle.answers.specs.Refusals.{ROW, GAP, OVERLAP}
-use Rattle.bandbook.specs.declared.Answer.TheVariants.{RefusedAt}
+use Rattle.bandbook.specs.Answers.{refused_at}
 use Rattle.bandbook.specs.declared.rows.Row.{Row}
-use Rattle.bandbook.specs.declared.rows.Found.{Found}
-use Rattle.bandbook.specs.declared.rows.Found.TheVariants.{At, Nowhere}
+use Rattle.std.proofs.Common.{Option, Some, None}
 use Rattle.bandbook.specs.Rows.{rows_in, row, row_ok, bad_row}
 use Rattle.bandbook.specs.Coverage.{covering}
 use Rattle.bandbook.specs.Book.{first_bad_row, bad_khz, lowest_bad_khz, khz_fault, khz_answer, row_fault, book_of}
@@ -50,7 +49,7 @@ module _ (rows : List Row) where
     first-bad : IsFirstBad rows i
     first-bad = record { within = omega (arith, first.up_to); up_to = at_most; bad = why; before = λ j h. (before j h).1 }
 
-  row_reported : {i : ℕ} → first_bad_row rows ≡ At i → IsFirstBad rows i
+  row_reported : {i : ℕ} → first_bad_row rows ≡ Some i → IsFirstBad rows i
   unfolding first_bad_row
   row_reported e = first-bad (found_first (bad_row rows) (length rows) 0 e)
 
@@ -67,28 +66,28 @@ module _ (rows : List Row) where
       go true t e = rw (← e) (lowest_gap below (eqb-true _ _ t))
       go false t e = rw (← e) (lowest_overlap below (several (covering rows khz) (eqb-false _ _ t) (eqb-false _ _ (not-true _ first.passes))))
 
-  khz_reported : {number place : ℕ} → first_bad_row rows ≡ Nowhere → khz_answer rows ≡ RefusedAt number place → Reported rows number place
+  khz_reported : {number place : ℕ} → first_bad_row rows ≡ None → khz_answer rows ≡ refused_at number place → Reported rows number place
   unfolding lowest_bad_khz khz_fault
   khz_reported {number} {place} none e = go (lowest_bad_khz rows) refl e
     where
-      go : (f : Found) → lowest_bad_khz rows ≡ f → khz_fault rows f ≡ RefusedAt number place → Reported rows number place
-      go Nowhere t e = absurd (apart (cc))
-      go (At khz) t e =
+      go : (f : Option ℕ) → lowest_bad_khz rows ≡ f → khz_fault rows f ≡ refused_at number place → Reported rows number place
+      go None t e = absurd (apart (cc))
+      go (Some khz) t e =
           let k : khz ≡ place = cc in
           let n : cond (eqb (covering rows khz) 0) GAP OVERLAP ≡ number = cc in
           rw (← k) (by_count (none-bad rows none) (found_first (bad_khz rows) 28000 2000 t) n)
 
 -- what the answer of a book says of its rows
-pub reported : (words : List ℕ) {number place : ℕ} → book_of words ≡ RefusedAt number place → Reported (rows_in words) number place
+pub reported : (words : List ℕ) {number place : ℕ} → book_of words ≡ refused_at number place → Reported (rows_in words) number place
 unfolding row_fault
 reported words {number} {place} e = go (first_bad_row rows) refl (book_whole words e (λ z. apart (cc))).1
   where
     rows : List Row
     rows = rows_in words
 
-    go : (f : Found) → first_bad_row rows ≡ f → row_fault rows f ≡ RefusedAt number place → Reported rows number place
-    go Nowhere t e = khz_reported rows t e
-    go (At i) t e =
+    go : (f : Option ℕ) → first_bad_row rows ≡ f → row_fault rows f ≡ refused_at number place → Reported rows number place
+    go None t e = khz_reported rows t e
+    go (Some i) t e =
         let n : ROW ≡ number = cc in
         let p : i ≡ place = cc in
         rw (← n, ← p) (first_row (row_reported rows t))

@@ -1,4 +1,5 @@
 -- The definitions that contracts cite: one file for each subject.
+pub mod Answers
 pub mod Rows
 pub mod Coverage
 pub mod Least

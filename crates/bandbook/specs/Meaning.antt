@@ -1,7 +1,7 @@
 -- Document 02, card 8: what the answers say of a book, in the card's sentences. Definitions only.
 use Rattle.std.specs.Prelude.{◌≡◌, ℕ, ◌%◌, ◌≤◌, ◌<◌, true, false, List, ◌⊎◌, length}
 use Rattle.answers.specs.Refusals.{ROW, GAP, OVERLAP}
-use Rattle.bandbook.specs.declared.Answer.TheVariants.{Accepted, RefusedAt}
+use Rattle.bandbook.specs.Answers.{accepted, refused_at}
 use Rattle.bandbook.specs.declared.rows.Row.{Row}
 use Rattle.bandbook.specs.Rows.{rows_in, row, row_ok}
 use Rattle.bandbook.specs.Coverage.{covers, covering}
@@ -28,7 +28,7 @@ pub record OnlyRow (rows : List Row) (khz place : ℕ) : Type 0 where
 pub record OneStation (words : List ℕ) (khz : ℕ) : Type 0 where
   pub place : ℕ
   pub only : OnlyRow (rows_in words) khz place
-  pub answer : station_for words khz ≡ Accepted (row (rows_in words) place).id
+  pub answer : station_for words khz ≡ accepted (row (rows_in words) place).id
 
 -- the row is the 65th or bad in itself, and those before it are good
 pub record IsFirstBad (rows : List Row) (i : ℕ) : Type 0 where
@@ -52,5 +52,5 @@ pub data Reported (rows : List Row) : ℕ → ℕ → Type 0 where
 
 -- two books that both have a bad row, or that answer alike
 pub data Alike (a b : List ℕ) : Type 0 where
-  both_bad : {i j : ℕ} → book_of a ≡ RefusedAt ROW i → book_of b ≡ RefusedAt ROW j → Alike a b
+  both_bad : {i j : ℕ} → book_of a ≡ refused_at ROW i → book_of b ≡ refused_at ROW j → Alike a b
   answer_alike : book_of a ≡ book_of b → ((khz : ℕ) → station_for a khz ≡ station_for b khz) → Alike a b

@@ -4,10 +4,12 @@ ghost use Rattle.std.specs.Prelude.{◌≡◌, ◌<◌};
 ghost use Rattle.bandbook.specs.Rows.{rows_in};
 ghost use Rattle.bandbook.specs.Coverage.{covers, one, station_at};
 ghost use Rattle.bandbook.specs.Stretch.{Nearer, Even};
+ghost use Rattle.bandbook.specs.Answers.{judged};
 ghost use Rattle.bandbook.specs.Book.{khz_answer};
 
-use crate::Answer;
+use crate::Refused;
 use crate::rows::{FROM_KHZ, Row, TO_KHZ, row_at};
+use answers::Refusal;
 
 // From some kHz up to, not including, `end`: this many rows cover each.
 #[derive(Clone, Copy)]
@@ -16,12 +18,14 @@ pub(crate) struct Stretch {
     pub end: u32,
 }
 
+#[tactic(auto, unfolding(crate::specs::Coverage::covers))]
 fn is_covered(khz: u32, row: Row) -> bool
     ensures { result ≡ covers khz row }
 {
     (row.low <= khz) & (khz < row.high)
 }
 
+#[tactic(auto, unfolding(crate::specs::Coverage::one))]
 fn count_one(khz: u32, row: Row) -> usize
     ensures { result ≡ one khz row }
 {
@@ -44,49 +48,44 @@ fn stretch_from(words: &[u32], khz: u32) -> Stretch
     requires { khz < 30000 }
     ensures { Even (rows_in words.now) khz result.rows result.end }
 {
-    let n = words.len() / 3;
     let mut rows: usize = 0;
     let mut end: u32 = TO_KHZ;
-    let mut i: usize = 0;
-    while i < n {
+    for i in 0..words.len() / 3 {
         let row = row_at(words, i);
         rows += count_one(khz, row);
         end = nearer_edge(khz, row.high, nearer_edge(khz, row.low, end));
-        i += 1;
     }
     Stretch { rows, end }
 }
 
-// The lowest kHz that no row or several rows cover.
-pub(crate) fn lowest_fault(words: &[u32]) -> Answer
-    ensures { result ≡ khz_answer (rows_in words.now) }
+// Refuses the lowest kHz that no row or several rows cover.
+pub(crate) fn check_khz(words: &[u32]) -> Result<(), Refused>
+    ensures { judged result ≡ khz_answer (rows_in words.now) }
 {
     let mut khz: u32 = FROM_KHZ;
+    // A step is a whole stretch.
     while khz < TO_KHZ {
         let stretch = stretch_from(words, khz);
         if stretch.rows == 0 {
-            return Answer::RefusedAt(answers::GAP, khz);
+            return Err(Refused::at(Refusal::Gap, khz));
         }
         if 1 < stretch.rows {
-            return Answer::RefusedAt(answers::OVERLAP, khz);
+            return Err(Refused::at(Refusal::Overlap, khz));
         }
         khz = stretch.end;
     }
-    Answer::Accepted(0)
+    Ok(())
 }
 
 // The id of the first row that covers the kHz, 0 where there is none.
 pub(crate) fn station_at(words: &[u32], khz: u32) -> u32
     ensures { result ≡ station_at (rows_in words.now) khz }
 {
-    let n = words.len() / 3;
-    let mut i: usize = 0;
-    while i < n {
+    for i in 0..words.len() / 3 {
         let row = row_at(words, i);
         if is_covered(khz, row) {
             return row.id;
         }
-        i += 1;
     }
     0
 }

@@ -19,42 +19,59 @@ mod coverage;
 mod rows;
 
 ghost use Rattle.std.specs.Prelude.{◌≡◌};
+ghost use Rattle.bandbook.specs.Answers.{judged, found};
 ghost use Rattle.bandbook.specs.Rows.{rows_in};
 ghost use Rattle.bandbook.specs.Book.{rows_answer, book_of, in_span, looked_up, station_for};
 
-use crate::coverage::{lowest_fault, station_at};
-use crate::rows::{FROM_KHZ, Found, TO_KHZ, first_bad_row};
+use crate::coverage::{check_khz, station_at};
+use crate::rows::{FROM_KHZ, TO_KHZ, first_bad_row};
+use answers::Refusal;
 
-// The value of an accepted call, 0 for a good book and the station's id at a lookup; or a refusal's
-// number, alone or with its place: the row, or the kHz.
-#[derive(Clone, Copy)]
-pub enum Answer {
-    Accepted(u32),
-    Refused(u8),
-    RefusedAt(u8, u32),
+// Why a call is refused, and where: the bad row, or the bad kHz. Words that aren't whole rows and a
+// kHz that is looked up out of the span have no place.
+#[derive(Clone, Copy, Debug, PartialEq, Eq)]
+pub struct Refused {
+    pub refusal: Refusal,
+    pub place: Option<u32>,
 }
 
-// What there is against whole rows: the first bad row, then the lowest bad kHz.
-fn rows_answer(words: &[u32]) -> Answer
-    ensures { result ≡ rows_answer (rows_in words.now) }
-{
-    let bad = first_bad_row(words);
-    match bad {
-        Found::At(row) => Answer::RefusedAt(answers::ROW, row),
-        Found::Nowhere => lowest_fault(words),
+impl Refused {
+    pub(crate) fn at(refusal: Refusal, place: u32) -> Refused
+        ensures { result ≡ record { refusal = refusal; place = Some place } }
+    {
+        Refused {
+            refusal,
+            place: Some(place),
+        }
     }
+}
+
+// Refuses for what there is against whole rows: the first bad row, then the lowest bad kHz.
+#[tactic(auto, unfolding(crate::specs::Book::row_fault))]
+fn check_rows(words: &[u32]) -> Result<(), Refused>
+    ensures { judged result ≡ rows_answer (rows_in words.now) }
+{
+    if let Some(row) = first_bad_row(words) {
+        return Err(Refused::at(Refusal::Row, row));
+    }
+    check_khz(words)
 }
 
 // Whether the book of these words, three a row, is a good one.
-pub fn book(words: &[u32]) -> Answer
-    ensures { result ≡ book_of words.now }
+#[tactic(auto, unfolding(crate::specs::Book::book_of))]
+pub fn book(words: &[u32]) -> Result<(), Refused>
+    ensures { judged result ≡ book_of words.now }
 {
     if words.len() % 3 != 0 {
-        return Answer::Refused(answers::SPACE);
+        return Err(Refused {
+            refusal: Refusal::Space,
+            place: None,
+        });
     }
-    rows_answer(words)
+    check_rows(words)
 }
 
+#[tactic(auto, unfolding(crate::specs::Book::in_span))]
 fn in_span(khz: u32) -> bool
     ensures { result ≡ in_span khz }
 {
@@ -62,23 +79,24 @@ fn in_span(khz: u32) -> bool
 }
 
 // The station for a kHz, in a book that is good.
-fn looked_up(words: &[u32], khz: u32) -> Answer
-    ensures { result ≡ looked_up (rows_in words.now) khz }
+#[tactic(auto, unfolding(crate::specs::Book::looked_up))]
+fn looked_up(words: &[u32], khz: u32) -> Result<u32, Refused>
+    ensures { found result ≡ looked_up (rows_in words.now) khz }
 {
-    if in_span(khz) {
-        return Answer::Accepted(station_at(words, khz));
+    if !in_span(khz) {
+        return Err(Refused {
+            refusal: Refusal::Row,
+            place: None,
+        });
     }
-    Answer::Refused(answers::ROW)
+    Ok(station_at(words, khz))
 }
 
 // The station that serves a kHz; a bad book is refused as `book` refuses it, and only then the kHz.
-pub fn station_for(words: &[u32], khz: u32) -> Answer
-    ensures { result ≡ station_for words.now khz }
+#[tactic(auto, unfolding(crate::specs::Book::station_for, crate::specs::Book::after_book))]
+pub fn station_for(words: &[u32], khz: u32) -> Result<u32, Refused>
+    ensures { found result ≡ station_for words.now khz }
 {
-    let answer = book(words);
-    match answer {
-        Answer::Accepted(_) => looked_up(words, khz),
-        Answer::Refused(number) => Answer::Refused(number),
-        Answer::RefusedAt(number, place) => Answer::RefusedAt(number, place),
-    }
+    book(words)?;
+    looked_up(words, khz)
 }

@@ -19,13 +19,7 @@ pub(crate) struct Row {
     pub id: u32,
 }
 
-// Where something was found.
-#[derive(Clone, Copy)]
-pub(crate) enum Found {
-    At(u32),
-    Nowhere,
-}
-
+#[tactic(auto, using(crate::proofs::RowWords::row_words))]
 pub(crate) fn row_at(words: &[u32], i: usize) -> Row
     requires { i < length words.now / 3 }
     ensures { result ≡ row (rows_in words.now) i }
@@ -38,6 +32,7 @@ pub(crate) fn row_at(words: &[u32], i: usize) -> Row
     }
 }
 
+#[tactic(auto, unfolding(crate::specs::Rows::row_ok))]
 fn row_ok(row: Row) -> bool
     ensures { result ≡ row_ok row }
 {
@@ -49,6 +44,7 @@ fn row_ok(row: Row) -> bool
 }
 
 // Whether row i is a 65th or later one, or bad in itself.
+#[tactic(auto, unfolding(crate::specs::Rows::bad_row))]
 fn bad_row(words: &[u32], i: usize) -> bool
     requires { i < length words.now / 3 }
     ensures { result ≡ bad_row (rows_in words.now) i }
@@ -56,16 +52,13 @@ fn bad_row(words: &[u32], i: usize) -> bool
     (ROWS <= i) | !row_ok(row_at(words, i))
 }
 
-pub(crate) fn first_bad_row(words: &[u32]) -> Found
+pub(crate) fn first_bad_row(words: &[u32]) -> Option<u32>
     ensures { result ≡ first_bad_row (rows_in words.now) }
 {
-    let n = words.len() / 3;
-    let mut i: usize = 0;
-    while i < n {
+    for i in 0..words.len() / 3 {
         if bad_row(words, i) {
-            return Found::At(i as u32);
+            return Some(i as u32);
         }
-        i += 1;
     }
-    Found::Nowhere
+    None
 }

@@ -5,18 +5,25 @@ use mathlib.Core.List.{List, ◌∷◌, ◌++◌, map}
 use Prim.Native.Nat.{ℕ}
 use lib.Ieee.{Float, binary32, to_bits}
 use lib.Dec.{eqb}
-use borrow.Author.Tests.{eqb-true, not-false}
+use borrow.Author.Tests.{eqb-true, not-false, lt-ltb}
+use Rattle.answers.specs.declared.Refusal.{Refusal}
+use Rattle.answers.specs.Outcome.{number}
+use Rattle.answers.proofs.Outcome.{number-pos}
 use Rattle.floats.proofs.Tests.{both, next}
 use Rattle.board_air.specs.Stations.{Station, station}
 use Rattle.board_air.specs.Runs.{F32s, without}
 use Rattle.board_air.specs.Words.{U32s, air_of, words_of, kept_in, count_in, stations_to, stations_on, stations_in, board_ok}
-use Rattle.board.specs.Calls.{join_answer, join_leaves, leave_answer, leave_leaves, show_answer}
+use Rattle.board.specs.Calls.{unless, join_answer, join_leaves, leave_answer, leave_leaves, show_answer}
 use Rattle.board_kept.specs.Steps.{kept_by, raised, renewed}
 use Rattle.board_anew.proofs.Answers.{MayJoin, may_join, MayLeave, may_leave}
 use Rattle.board_air.proofs.Airs.{OnAir, air_of_lem}
 use Rattle.board.proofs.Boards.{Whole, whole, stations_on_air}
 use Rattle.board_anew.proofs.Present.{one_more, one_fewer}
 use Rattle.board_anew.proofs.Keeping.{kept_more, kept-fewer}
+
+-- a refusal leaves what is lent
+pub refused_stays : {A : Type 0} (r : Refusal) (n : ℕ) (lent written : A) → number r ≡ n → lent ≡ unless n lent written
+refused_stays r n lent written e = rw (← e, lt-ltb 0 (number r) (number-pos r))
 
 -- ---- the board
 

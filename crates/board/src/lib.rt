@@ -3,7 +3,7 @@
 // The exercise board of document 02's card 10: stations come on the air and go off, and the board
 // keeps the strongest at each of 360 azimuths. It lies in lent words (`board_air`'s
 // specs/Words.antt), and each call is an equation with a definition of specs/Calls.antt, whatever
-// the words: 0, or the first refusal of the card's order with everything lent as it was. A join
+// the words: the first refusal of the card's order with everything lent as it was, or none. A join
 // compares the newcomer with what is kept (`board_kept`); a leave works out anew only the azimuths
 // where the one who leaves was shown (`board_anew`).
 //
@@ -19,70 +19,66 @@ mod accepted;
 mod refusal;
 
 ghost use Rattle.std.specs.Prelude.{◌≡◌, length};
+ghost use Rattle.answers.specs.Outcome.{number_of};
 ghost use Rattle.board.specs.Calls.{empty_answer, empty_leaves, join_answer, join_leaves, leave_answer, leave_leaves, show_answer, show_numbers, show_ids};
 
+use answers::Refusal;
 use board_air::AIR;
 use board_air::change::{clear, enter, remove, row_bits};
 use board_anew::kept::{put_kept, renew};
 use board_kept::kept::{put_nobody, raise};
-use refusal::{join_refusal, leave_refusal, show_refusal};
+use refusal::{check_join, check_leave, check_show};
 
 // The words of a board: after the air's what it keeps, 360 numbers' bits and 360 ids.
 pub(crate) const WORDS: usize = 6497;
 
 // An empty board over any words.
-pub fn empty(board: &mut [u32]) -> u8
-    ensures value { result ≡ empty_answer board.old }
+pub fn empty(board: &mut [u32]) -> Result<(), Refusal>
+    ensures value { number_of result ≡ empty_answer board.old }
     ensures board_after { board.new ≡ empty_leaves board.old }
 {
     if board.len() != WORDS {
-        return answers::SPACE;
+        return Err(Refusal::Space);
     }
     clear(board, 0, AIR);
     put_nobody(&mut board[AIR..]);
-    0
+    Ok(())
 }
 
 // A station comes on the air, with its id and its plate row.
-pub fn join(board: &mut [u32], id: u32, row: &[f32]) -> u8
-    ensures value { result ≡ join_answer board.old id row.now }
+#[tactic(auto, using(crate::proofs::Changes::refused_stays), unfolding(crate::specs::Calls::join_leaves))]
+pub fn join(board: &mut [u32], id: u32, row: &[f32]) -> Result<(), Refusal>
+    ensures value { number_of result ≡ join_answer board.old id row.now }
     ensures board_after { board.new ≡ join_leaves board.old id row.now }
 {
-    let number = join_refusal(board, id, row);
-    if 0 < number {
-        return number;
-    }
+    check_join(board, id, row)?;
     enter(&mut board[..AIR], id, row);
     let bits = row_bits(row);
     raise(&mut board[AIR..], id, &bits);
-    0
+    Ok(())
 }
 
 // A station goes off the air.
-pub fn leave(board: &mut [u32], id: u32) -> u8
-    ensures value { result ≡ leave_answer board.old id }
+#[tactic(auto, using(crate::proofs::Changes::refused_stays), unfolding(crate::specs::Calls::leave_leaves))]
+pub fn leave(board: &mut [u32], id: u32) -> Result<(), Refusal>
+    ensures value { number_of result ≡ leave_answer board.old id }
     ensures board_after { board.new ≡ leave_leaves board.old id }
 {
-    let number = leave_refusal(board, id);
-    if 0 < number {
-        return number;
-    }
+    check_leave(board, id)?;
     remove(&mut board[..AIR], id);
     let left = board[0] as usize;
     renew(board, left, id);
-    0
+    Ok(())
 }
 
 // The greatest number at each azimuth and the id that has it.
-pub fn show(board: &[u32], numbers: &mut [f32], ids: &mut [u32]) -> u8
-    ensures value { result ≡ show_answer board.now (length numbers.old) (length ids.old) }
+#[tactic(auto, using(crate::proofs::Changes::refused_stays), unfolding(crate::specs::Calls::show_numbers, crate::specs::Calls::show_ids))]
+pub fn show(board: &[u32], numbers: &mut [f32], ids: &mut [u32]) -> Result<(), Refusal>
+    ensures value { number_of result ≡ show_answer board.now (length numbers.old) (length ids.old) }
     ensures numbers_after { numbers.new ≡ show_numbers board.now numbers.old ids.old }
     ensures ids_after { ids.new ≡ show_ids board.now numbers.old ids.old }
 {
-    let number = show_refusal(board, numbers.len(), ids.len());
-    if 0 < number {
-        return number;
-    }
+    check_show(board, numbers.len(), ids.len())?;
     put_kept(&board[AIR..], numbers, ids);
-    0
+    Ok(())
 }

@@ -1,56 +1,58 @@
-// Why a call on the board is refused: the first number of the card's order, 0 where there is none.
+// Why a call on the board is refused: the first refusal of the card's order.
 ghost use Rattle.std.specs.Prelude.{◌≡◌};
+ghost use Rattle.answers.specs.Outcome.{number_of};
 ghost use Rattle.board.specs.Calls.{join_answer, leave_answer, show_answer};
 
 use crate::accepted::board_ok;
+use answers::Refusal;
 use board_air::AIR;
 use board_air::accepted::is_id;
 use board_air::places::is_on;
 use floats::range::all_finite;
 
-pub(crate) fn join_refusal(board: &[u32], id: u32, row: &[f32]) -> u8
-    ensures { result ≡ join_answer board.now id row.now }
+pub(crate) fn check_join(board: &[u32], id: u32, row: &[f32]) -> Result<(), Refusal>
+    ensures { number_of result ≡ join_answer board.now id row.now }
 {
     if !all_finite(row) {
-        return answers::VALUE;
+        return Err(Refusal::Value);
     }
     let space = board_ok(board) & (row.len() == 360);
     if !space {
-        return answers::SPACE;
+        return Err(Refusal::Space);
     }
     let n = board[0] as usize;
     let new = !is_on(&board[..AIR], n, id);
     let may = is_id(id) & new;
     if !may {
-        return answers::CALL;
+        return Err(Refusal::Call);
     }
     if n >= 16 {
-        return answers::FULL;
+        return Err(Refusal::Full);
     }
-    0
+    Ok(())
 }
 
-pub(crate) fn leave_refusal(board: &[u32], id: u32) -> u8
-    ensures { result ≡ leave_answer board.now id }
+pub(crate) fn check_leave(board: &[u32], id: u32) -> Result<(), Refusal>
+    ensures { number_of result ≡ leave_answer board.now id }
 {
     if !board_ok(board) {
-        return answers::SPACE;
+        return Err(Refusal::Space);
     }
     let n = board[0] as usize;
     let may = is_id(id) & is_on(&board[..AIR], n, id);
     if !may {
-        return answers::CALL;
+        return Err(Refusal::Call);
     }
-    0
+    Ok(())
 }
 
 // With so many numbers and ids lent to show the board in.
-pub(crate) fn show_refusal(board: &[u32], numbers: usize, ids: usize) -> u8
-    ensures { result ≡ show_answer board.now numbers ids }
+pub(crate) fn check_show(board: &[u32], numbers: usize, ids: usize) -> Result<(), Refusal>
+    ensures { number_of result ≡ show_answer board.now numbers ids }
 {
     let space = board_ok(board) & (numbers == 360) & (ids == 360);
     if !space {
-        return answers::SPACE;
+        return Err(Refusal::Space);
     }
-    0
+    Ok(())
 }

@@ -40,9 +40,9 @@ field_below r h =
     high e = omega arith
 
 -- without the sign the bits are below those of an infinity
-pub finite-bits : (w : ℕ) → ltb (w % 0x80000000) 0x7F800000 ≡ finite (of_bits binary32 w)
+pub finite_bits : (w : ℕ) → ltb (w % 0x80000000) 0x7F800000 ≡ finite (of_bits binary32 w)
 unfolding of_bits
-finite-bits w =
+finite_bits w =
     field_below (w % 0x80000000) (mod-lt w (lit< tt))
     ∙ sym (fields-finite (leb (top binary32) w) (w % top binary32 / hid binary32) (w % hid binary32))
 

@@ -8,6 +8,5 @@ pub mod Moves
 pub mod Ranks
 pub mod Reading
 pub mod Tests
-pub mod Writing
 mod Order
 mod Slots

@@ -2,12 +2,17 @@
 use mathlib.Core.Path.{◌≡◌, refl, sym, ap, ◌∙◌}
 use mathlib.Core.List.{List, [], ◌∷◌}
 use Prim.Native.Nat.{ℕ, zero, suc, ◌+◌, ◌≤◌, ◌<◌}
-use native.Mathlib.Nat.{le_of_suc-le-suc}
+use native.Mathlib.Nat.{le_of_suc-le-suc, le_refl}
+use native.Mathlib.Numerals.{add-one}
 use native.Mathlib.Omega.{arith}
 use lib.ListN.{length, get_or, take, drop, length-map, length-take, length-drop, get_or-map}
-use lib.Seq.{get_or-take, get_or-drop}
+use lib.Seq.{take-length, get_or-take, get_or-drop}
 use lib.Dec.{lit<}
-use lib.Ieee.{nan, binary32, of_bits}
+use lib.Ieee.{Float, nan, binary32, of_bits}
+use lib.Ieee.Scale.{finite}
+use Rattle.std.specs.List.{list_all}
+use Rattle.std.proofs.lemmas.List.Folds.{list_all_more}
+use Rattle.floats.specs.Ranges.{finite_to, all_finite}
 use Rattle.board_air.specs.Runs.{on}
 use Rattle.board_air.specs.Words.{air_size, air_in, count_in, row_in, stations_to, stations_on, stations_in}
 
@@ -26,6 +31,16 @@ module _ (words : List ℕ) (at : ℕ) (room : at + 360 ≤ length words) where
       in_list (row_in words at) v nan (of_bits binary32 0) (omega (arith, row-length))
       ∙ get_or-map (of_bits binary32) (take 360 (drop at words)) v 0
       ∙ ap (of_bits binary32) (get_or-take 360 (drop at words) v 0 h ∙ get_or-drop at words v 0)
+
+-- finite ones, one by one
+finite-to : (l : List Float) (n : ℕ) → n ≤ length l → finite_to l n ≡ list_all finite (take n l)
+unfolding finite_to
+finite-to l zero h = refl
+finite-to l (suc n) h = rw (finite-to l n (omega arith), ← add-one, list_all_more finite l n nan (omega arith))
+
+pub finite-all : (l : List Float) → all_finite l ≡ list_all finite l
+unfolding all_finite
+finite-all l = finite-to l (length l) (le_refl _) ∙ ap (list_all finite) (take-length l)
 
 pub stations_length : (words : List ℕ) (n : ℕ) → length (stations_to words n) ≡ n
 unfolding stations_to

@@ -1,10 +1,6 @@
 -- Tests that are made of tests. Assumes nothing.
 use mathlib.Core.Path.{◌≡◌, refl, sym}
-use mathlib.Core.Bool.{Bool, true, false, ◌&&◌, ◌||◌, false≢true}
-
-pub and-more : (a b c : Bool) → (a && (b && c)) ≡ (a && b && c)
-and-more true b c = refl
-and-more false b c = refl
+use mathlib.Core.Bool.{Bool, true, false, ◌||◌, false≢true}
 
 pub same_test : (p q : Bool) → (p ≡ true → q ≡ true) → (q ≡ true → p ≡ true) → p ≡ q
 same_test true q f g = sym (f refl)

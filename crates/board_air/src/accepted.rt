@@ -11,13 +11,15 @@ use crate::AIR;
 use crate::places::is_on;
 
 // Inner step: of the refusals.
+#[tactic(auto, unfolding(crate::specs::Runs::is_id))]
 pub fn is_id(id: u32) -> bool
     ensures { result ≡ is_id id }
 {
-    (0 < id) & (id <= 65535)
+    0 < id && id <= 65535
 }
 
 // Whether these are a finite number's bits, by the exponent's field alone: quicker than to read it.
+#[tactic(auto, using(crate::proofs::Bits::finite_bits))]
 fn finite_bits(word: u32) -> bool
     ensures { result ≡ finite (of_bits binary32 word) }
 {
@@ -29,37 +31,30 @@ fn row_ok(air: &[u32], at: usize) -> bool
     requires { at + 360 ≤ length air.now }
     ensures { result ≡ all_finite (row_in air.now at) }
 {
-    let mut ok = true;
-    let mut v: usize = 0;
-    while v < 360 {
-        ok = ok & finite_bits(air[at + v]);
-        v += 1;
-    }
-    ok
+    air[at..at + 360].iter().all(|word| finite_bits(*word))
 }
 
 // Whether place k has an id that no place before it has, and finite numbers.
+#[tactic(auto, unfolding(crate::specs::Words::station_ok, crate::specs::Words::station_at))]
 fn station_ok(air: &[u32], k: usize) -> bool
     requires { (length air.now ≡ air_size) × (k < 16) }
     ensures { result ≡ station_ok (station_at air.now k) (stations_to air.now k) }
 {
     let at = 361 * k;
     let id = air[1 + at];
-    let new = !is_on(air, k, id);
-    is_id(id) & new & row_ok(air, 2 + at)
+    is_id(id) && !is_on(air, k, id) && row_ok(air, 2 + at)
 }
 
 fn stations_ok(air: &[u32], n: usize) -> bool
     requires { (length air.now ≡ air_size) × (n ≤ 16) }
     ensures { result ≡ stations_ok (stations_to air.now n) }
 {
-    let mut ok = true;
-    let mut k: usize = 0;
-    while k < n {
-        ok = ok & station_ok(air, k);
-        k += 1;
+    for k in 0..n {
+        if !station_ok(air, k) {
+            return false;
+        }
     }
-    ok
+    true
 }
 
 // Whether all words from `at` on are 0.
@@ -67,16 +62,11 @@ fn blank_from(air: &[u32], at: usize) -> bool
     requires { at ≤ length air.now }
     ensures { result ≡ blank (drop at air.now) }
 {
-    let mut ok = true;
-    let mut i = at;
-    while i < air.len() {
-        ok = ok & (air[i] == 0);
-        i += 1;
-    }
-    ok
+    air[at..].iter().all(|word| *word == 0)
 }
 
 // Inner step: of `board`'s test of all its words.
+#[tactic(auto, unfolding(crate::specs::Words::air_ok, crate::specs::Words::stations_on))]
 pub fn air_ok(air: &[u32]) -> bool
     ensures { result ≡ air_ok air.now }
 {
@@ -87,5 +77,5 @@ pub fn air_ok(air: &[u32]) -> bool
     if n > 16 {
         return false;
     }
-    stations_ok(air, n) & blank_from(air, 1 + 361 * n)
+    stations_ok(air, n) && blank_from(air, 1 + 361 * n)
 }

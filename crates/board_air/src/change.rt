@@ -9,31 +9,16 @@ ghost use Rattle.board_air.specs.Words.{place_of, air_of, air_ok, stations_on};
 
 use crate::AIR;
 use crate::places::slot_of;
-use numeric::bits::bits_of;
+use words::patterns::put_bits;
 
 // Zeros over n words from `at` on.
 // Inner step: of `board::empty` too, once the words are as many as a board's.
+#[tactic(auto, unfolding(words::specs::Laid::laid))]
 pub fn clear(words: &mut [u32], at: usize, n: usize)
     requires { at + n ≤ length words.old }
     ensures { words.new ≡ laid words.old at (replicate n 0) }
 {
-    let mut i: usize = 0;
-    while i < n {
-        words[at + i] = 0;
-        i += 1;
-    }
-}
-
-// The row's bits over the words from `at` on.
-fn put_row(words: &mut [u32], at: usize, row: &[f32])
-    requires { at + length row.now ≤ length words.old }
-    ensures { words.new ≡ laid words.old at (map (to_bits binary32) row.now) }
-{
-    let mut i: usize = 0;
-    while i < row.len() {
-        words[at + i] = bits_of(row[i]);
-        i += 1;
-    }
+    words[at..at + n].fill(0);
 }
 
 // A station's place from word `at` on.
@@ -42,20 +27,16 @@ pub(crate) fn put_station(words: &mut [u32], at: usize, id: u32, row: &[f32])
     ensures { words.new ≡ laid words.old at (place_of (station id row.now)) }
 {
     words[at] = id;
-    put_row(words, at + 1, row);
+    put_bits(words, at + 1, row);
 }
 
 // The words after the place at word `at` are moved up over it.
+#[tactic(auto, unfolding(words::specs::Laid::laid))]
 pub(crate) fn close_gap(words: &mut [u32], at: usize)
     requires { at + 361 ≤ length words.old }
     ensures { words.new ≡ laid words.old at (drop (at + 361) words.old) }
 {
-    let next = at + 361;
-    let mut i: usize = 0;
-    while i < words.len() - next {
-        words[at + i] = words[next + i];
-        i += 1;
-    }
+    words.copy_within(at + 361.., at);
 }
 
 // A row's bits.
@@ -65,7 +46,7 @@ pub fn row_bits(row: &[f32]) -> [u32; 360]
     ensures { result ≡ map (to_bits binary32) row.now }
 {
     let mut bits = [0u32; 360];
-    put_row(&mut bits, 0, row);
+    put_bits(&mut bits, 0, row);
     bits
 }
 

@@ -9,13 +9,11 @@ pub(crate) fn slot_of(air: &[u32], n: usize, id: u32) -> usize
     requires { (length air.now ≡ air_size) × (n ≤ 16) }
     ensures { result ≡ slot_of id (stations_to air.now n) }
 {
-    let mut slot: usize = 16;
-    let mut k: usize = 0;
-    while k < n {
+    let mut slot = 16;
+    for k in 0..n {
         if air[1 + 361 * k] == id {
             slot = k;
         }
-        k += 1;
     }
     slot
 }

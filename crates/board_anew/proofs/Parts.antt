@@ -1,10 +1,11 @@
 -- Parts of a board that are lent and come back. Assumes nothing.
 use mathlib.Core.Path.{◌≡◌, refl, ap, ◌∙◌}
-use mathlib.Core.List.{List, ◌++◌, append-nil}
-use Prim.Native.Nat.{ℕ, ◌-◌}
+use mathlib.Core.List.{List, [], ◌∷◌, ◌++◌, append-nil}
+use Prim.Native.Nat.{ℕ, zero, suc, ◌-◌, ◌≤◌}
 use native.Mathlib.Omega.{arith}
-use lib.ListN.{length, take, drop, length-append, length-drop, drop_of_length-le, get_or-append}
-use lib.Seq.{take_all, take_at, drop_at}
+use lib.ListN.{length, get_or, take, drop, length-append, length-drop, drop_of_length-le, get_or-append}
+use lib.Seq.{take-suc, take_all, take_at, drop_at}
+use Rattle.board_air.specs.Stations.{up_to}
 use Rattle.board_air.specs.Words.{air_size, air_in, kept_in, count_in}
 
 -- ---- the part from n on
@@ -18,6 +19,12 @@ module _ (n : ℕ) where
       ap (λ (r : List ℕ). take n l ++ (s ++ r)) (drop_of_length-le (drop n l) {i = length l - n} (omega (arith, length-drop n l)))
       ∙ ap (λ (r : List ℕ). take n l ++ r) (append-nil s ∙ f)
       ∙ ap (λ (r : List ℕ). take n r ++ t) e
+
+-- the first n of l, read one by one
+pub up_to-read : {A : Type 0} (l : List A) (d : A) (n : ℕ) → n ≤ length l → take n l ≡ up_to (λ (v : ℕ). get_or l v d) n
+unfolding up_to
+up_to-read l d zero h = refl
+up_to-read {A} l d (suc n) h = take-suc l n d (omega arith) ∙ ap (λ (r : List A). r ++ (get_or l n d ∷ [])) (up_to-read l d n (omega arith))
 
 -- ---- s in the place of the air
 

@@ -8,7 +8,7 @@ ghost use Rattle.board_kept.specs.Steps.{kept_by, renewed};
 
 use board_air::AIR;
 use board_kept::kept::{put_nobody, raise, raise_vacated, same_words, vacated};
-use numeric::bits::float_of;
+use words::patterns::read_bits;
 
 // Worked out afresh from the first n places: a place at a time, as its words are neighbours.
 fn afresh(air: &[u32], n: usize) -> [u32; 720]
@@ -17,12 +17,10 @@ fn afresh(air: &[u32], n: usize) -> [u32; 720]
 {
     let mut kept = [0u32; 720];
     put_nobody(&mut kept);
-    let mut k: usize = 0;
-    while k < n {
+    for k in 0..n {
         let from = 2 + 361 * k;
         let end = 360 + from;
         raise(&mut kept, air[1 + 361 * k], &air[from..end]);
-        k += 1;
     }
     kept
 }
@@ -44,25 +42,12 @@ fn anew(air: &[u32], n: usize, kept: &[u32], gone: u32) -> [u32; 720]
     ensures { result ≡ kept_by (renewed gone (stations_to air.now n) kept.now) }
 {
     let mut left = vacated(kept, gone);
-    let mut k: usize = 0;
-    while k < n {
+    for k in 0..n {
         let from = 2 + 361 * k;
         let end = 360 + from;
         raise_vacated(&mut left, kept, gone, air[1 + 361 * k], &air[from..end]);
-        k += 1;
     }
     left
-}
-
-fn put_words(to: &mut [u32], from: &[u32])
-    requires { length to.old ≡ length from.now }
-    ensures { to.new ≡ from.now }
-{
-    let mut i: usize = 0;
-    while i < from.len() {
-        to[i] = from[i];
-        i += 1;
-    }
 }
 
 // The same of a board.
@@ -80,7 +65,7 @@ pub fn renew(board: &mut [u32], n: usize, gone: u32)
     ensures { board.new ≡ air_in board.old ++ kept_by (renewed gone (stations_to (air_in board.old) n) (kept_in board.old)) }
 {
     let left = kept_without(board, n, gone);
-    put_words(&mut board[AIR..], &left);
+    board[AIR..].copy_from_slice(&left);
 }
 
 // What is kept, over the lent numbers and ids.
@@ -90,10 +75,6 @@ pub fn put_kept(kept: &[u32], numbers: &mut [f32], ids: &mut [u32])
     ensures numbers_after { numbers.new ≡ up_to (λ v. of_bits binary32 (get_or kept.now v 0)) 360 }
     ensures ids_after { ids.new ≡ up_to (λ v. get_or kept.now (360 + v) 0) 360 }
 {
-    let mut v: usize = 0;
-    while v < 360 {
-        numbers[v] = float_of(kept[v]);
-        ids[v] = kept[360 + v];
-        v += 1;
-    }
+    read_bits(kept, 0, numbers);
+    ids.copy_from_slice(&kept[360..]);
 }

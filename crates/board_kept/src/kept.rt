@@ -6,7 +6,7 @@ ghost use Rattle.board_kept.specs.Steps.{entry, entry_in, better_of, kept_by, ra
 use numeric::bits::float_of;
 
 // The bits of a number, and the id that has it; id 0 is nobody.
-#[derive(Clone, Copy)]
+#[derive(Clone, Copy, Debug, PartialEq, Eq)]
 pub struct Entry {
     pub bits: u32,
     pub id: u32,
@@ -42,6 +42,7 @@ fn put_entry(kept: &mut [u32], v: usize, entry: Entry)
 }
 
 // One more against the one shown: the greater number; of equal ones that of the lower id.
+#[tactic(auto, unfolding(crate::specs::Steps::better_of))]
 fn better(a: Entry, b: Entry) -> Entry
     ensures { result ≡ better_of a b }
 {
@@ -49,7 +50,7 @@ fn better(a: Entry, b: Entry) -> Entry
     let old = float_of(b.bits);
     let greater = old < new;
     let equal = old == new;
-    if (b.id == 0) | (greater | equal & (a.id < b.id)) {
+    if b.id == 0 || greater || equal && a.id < b.id {
         a
     } else {
         b
@@ -62,15 +63,10 @@ pub fn raise(kept: &mut [u32], id: u32, bits: &[u32])
     requires { (length kept.old ≡ 720) × (length bits.now ≡ 360) }
     ensures { kept.new ≡ kept_by (raised id bits.now kept.old) }
 {
-    let mut v: usize = 0;
-    while v < 360 {
-        let new = Entry {
-            bits: bits[v],
-            id: id,
-        };
+    for v in 0..360 {
+        let new = Entry { bits: bits[v], id };
         let best = better(new, entry_in(kept, v));
         put_entry(kept, v, best);
-        v += 1;
     }
 }
 
@@ -80,10 +76,8 @@ pub fn put_nobody(kept: &mut [u32])
     requires { length kept.old ≡ 720 }
     ensures { kept.new ≡ kept_of [] }
 {
-    let mut v: usize = 0;
-    while v < 360 {
+    for v in 0..360 {
         put_entry(kept, v, nobody());
-        v += 1;
     }
 }
 
@@ -92,13 +86,7 @@ pub fn same_words(a: &[u32], b: &[u32]) -> bool
     requires { length a.now ≡ length b.now }
     ensures { result ≡ same_words a.now b.now }
 {
-    let mut ok = true;
-    let mut i: usize = 0;
-    while i < a.len() {
-        ok = ok & (a[i] == b[i]);
-        i += 1;
-    }
-    ok
+    a == b
 }
 
 // What is kept, with nobody where the one gone was shown.
@@ -108,12 +96,10 @@ pub fn vacated(kept: &[u32], gone: u32) -> [u32; 720]
     ensures { result ≡ kept_by (renewed gone [] kept.now) }
 {
     let mut left = [0u32; 720];
-    let mut v: usize = 0;
-    while v < 360 {
+    for v in 0..360 {
         let was = entry_in(kept, v);
         let rest = if was.id == gone { nobody() } else { was };
         put_entry(&mut left, v, rest);
-        v += 1;
     }
     left
 }
@@ -124,16 +110,11 @@ pub fn raise_vacated(left: &mut [u32], kept: &[u32], gone: u32, id: u32, bits: &
     requires { (length left.old ≡ 720) × (length kept.now ≡ 720) × (length bits.now ≡ 360) }
     ensures { left.new ≡ kept_by (raised_vacated gone kept.now id bits.now left.old) }
 {
-    let mut v: usize = 0;
-    while v < 360 {
-        let new = Entry {
-            bits: bits[v],
-            id: id,
-        };
+    for v in 0..360 {
+        let new = Entry { bits: bits[v], id };
         let old = entry_in(left, v);
         let best = better(new, old);
         let rest = if kept[360 + v] == gone { best } else { old };
         put_entry(left, v, rest);
-        v += 1;
     }
 }

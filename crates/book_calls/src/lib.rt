@@ -4,32 +4,42 @@
 // words, and answer what `bandbook` answers of them (specs/Book.antt): a value, a refusal's number under
 // kind 3, or its number and place under kind 4.
 ghost use Rattle.std.specs.Prelude.{◌≡◌};
+ghost use Rattle.answers.specs.Outcome.{number};
+ghost use Rattle.bandbook.specs.Answers.{placed};
 ghost use Rattle.book_calls.specs.Book.{packed, book_call, station_call};
 
-use bandbook::Answer;
-use packed::{REFUSED, REFUSED_AT};
+use bandbook::Refused;
+use packed::{REFUSED_AT, refused};
 
-// Kind 0 with the value, kind 3 with a refusal's number, or kind 4 with its number and place.
-fn pack(answer: Answer) -> u64
-    ensures { result ≡ packed answer }
+// Kind 3 with a refusal's number, or kind 4 with its number and place.
+#[tactic(auto, unfolding(crate::specs::Book::packed))]
+fn pack(e: Refused) -> u64
+    ensures { result ≡ packed (placed (number e.refusal) e.place) }
 {
-    match answer {
-        Answer::Accepted(value) => value as u64,
-        Answer::Refused(number) => REFUSED + number as u64,
-        Answer::RefusedAt(number, place) => REFUSED_AT + (number as u64 * 65536 + place as u64),
+    match e.place {
+        None => refused(e.refusal),
+        Some(place) => REFUSED_AT + (u8::from(e.refusal) as u64 * 65536 + place as u64),
     }
 }
 
 // `bandbook::book` of rows, three words each: 0 for a good book.
+#[tactic(auto, unfolding(crate::specs::Book::book_call, crate::specs::Book::packed))]
 pub fn book(rows: &[u32]) -> u64
     ensures { result ≡ book_call rows.now }
 {
-    pack(bandbook::book(rows))
+    match bandbook::book(rows) {
+        Ok(()) => 0,
+        Err(e) => pack(e),
+    }
 }
 
 // `bandbook::station_for`: the id of the station for a kHz.
+#[tactic(auto, unfolding(crate::specs::Book::station_call, crate::specs::Book::packed))]
 pub fn station_for(rows: &[u32], khz: u32) -> u64
     ensures { result ≡ station_call rows.now khz }
 {
-    pack(bandbook::station_for(rows, khz))
+    match bandbook::station_for(rows, khz) {
+        Ok(id) => id as u64,
+        Err(e) => pack(e),
+    }
 }

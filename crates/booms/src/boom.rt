@@ -1,11 +1,10 @@
 // The log-periodic antennas, types 5 and 6, at one direction.
-ghost use Rattle.std.specs.Prelude.{◌≡◌, true, List, ◌≤◌, length, Float};
+ghost use Rattle.std.specs.Prelude.{◌≡◌, true, ◌≤◌, length};
 ghost use Rattle.model.specs.Table.{table_size};
 ghost use Rattle.model.specs.Counts.{elements_ok};
-ghost use Rattle.booms.specs.Boom.{entry_at, gamma_of, across_below, across_factor, upright_factor, add_across, add_upright, added, field_to, both_fields, one_field};
-ghost use Rattle.booms.specs.Lists.{element_by, elements_by};
+ghost use Rattle.booms.specs.Boom.{entry_at, element_at, gamma_of, across_below, across_factor, upright_factor, add_across, add_upright, added, field_to, both_fields, one_field};
 
-use model::record::{Constants, Direction, Entry};
+use model::record::{Constants, Direction, Elements, Entry};
 use model::table::{PART, ROW};
 
 const Q1: f32 = 3.1415927 / 180.0;
@@ -43,28 +42,22 @@ fn entry_at(table: &[f32], iu: usize, i: usize) -> Entry
     }
 }
 
-// Element i of the lists fi to rl.
-fn element_at<'a>(
-    fi: &'a [f32; 36],
-    rim: &'a [f32; 36],
-    x: &'a [f32; 36],
-    y: &'a [f32; 36],
-    rl: &'a [f32; 36],
-    i: usize,
-) -> Element
+// Element i.
+fn element_at(e: &Elements, i: usize) -> Element
     requires { i ≤ 30 }
-    ensures { result ≡ element_by fi.now rim.now x.now y.now rl.now i }
+    ensures { result ≡ element_at e.now i }
 {
     Element {
-        rl: rl[i],
-        rim: rim[i],
-        fi: fi[i],
-        x: x[i],
-        y: y[i],
+        rl: e.rl[i],
+        rim: e.rim[i],
+        fi: e.fi[i],
+        x: e.x[i],
+        y: e.y[i],
     }
 }
 
 // The phase for each metre of x or y.
+#[tactic(auto, unfolding(crate::specs::Boom::gamma_of))]
 fn gamma_of(k: Constants, d: Direction) -> f32
     ensures { result ≡ gamma_of k d }
 {
@@ -74,6 +67,7 @@ fn gamma_of(k: Constants, d: Direction) -> f32
 }
 
 // What one horizontal element's own pattern is divided by.
+#[tactic(auto, unfolding(crate::specs::Boom::across_below))]
 fn across_below(d: Direction) -> f32
     ensures { result ≡ across_below d }
 {
@@ -81,6 +75,7 @@ fn across_below(d: Direction) -> f32
 }
 
 // One horizontal element's own pattern, fg its electrical half length.
+#[tactic(auto, unfolding(crate::specs::Boom::across_factor))]
 fn across_factor(fg: f32, df: f32, d: Direction) -> f32
     ensures { result ≡ across_factor fg df d }
 {
@@ -88,6 +83,7 @@ fn across_factor(fg: f32, df: f32, d: Direction) -> f32
 }
 
 // One vertical element's own pattern.
+#[tactic(auto, unfolding(crate::specs::Boom::upright_factor))]
 fn upright_factor(fg: f32, d: Direction) -> f32
     ensures { result ≡ upright_factor fg d }
 {
@@ -95,6 +91,7 @@ fn upright_factor(fg: f32, d: Direction) -> f32
 }
 
 // One horizontal element's field added to the sums; fti is its current times its own pattern.
+#[tactic(auto, unfolding(crate::specs::Boom::add_across))]
 fn add_across(fti: f32, phase: f32, w: Entry, s: Field) -> Field
     ensures { result ≡ add_across fti phase w s }
 {
@@ -113,6 +110,7 @@ fn add_across(fti: f32, phase: f32, w: Entry, s: Field) -> Field
 }
 
 // One vertical element's field added to the sums.
+#[tactic(auto, unfolding(crate::specs::Boom::add_upright))]
 fn add_upright(fti: f32, phase: f32, w: Entry, s: Field) -> Field
     ensures { result ≡ add_upright fti phase w s }
 {
@@ -128,6 +126,7 @@ fn add_upright(fti: f32, phase: f32, w: Entry, s: Field) -> Field
 }
 
 // One element's field added to the sums, type 6's where the elements are upright and else type 5's.
+#[tactic(auto, unfolding(crate::specs::Boom::added))]
 fn add_element(
     upright: bool,
     beta: f32,
@@ -149,24 +148,19 @@ fn add_element(
     add_across(fti, gamma * el.x + el.fi * Q1, w, s)
 }
 
-// The sums over the nat active elements, of the lists iek to rl, whatever their heights.
+// The sums over the active elements.
 // Inner step: of `pattern`, whose callers refuse other records and shorter tables first.
-pub fn field_of<'a>(
+#[tactic(auto, using(model::proofs::ActiveElements::active_below), unfolding(crate::specs::Boom::field_to))]
+pub fn field_of(
     upright: bool,
     k: Constants,
-    nat: usize,
-    iek: &'a [usize; 36],
-    fi: &'a [f32; 36],
-    rim: &'a [f32; 36],
-    x: &'a [f32; 36],
-    y: &'a [f32; 36],
-    rl: &'a [f32; 36],
+    e: &Elements,
     table: &[f32],
     iu: usize,
     d: Direction,
 ) -> Field
-    requires { (nat ≤ 30) × (elements_ok iek.now nat ≡ true) × (iu ≤ 90) × (table_size ≤ length table.now) }
-    ensures { (h : List Float) → result ≡ field_to upright k (elements_by iek.now fi.now rim.now x.now y.now rl.now h nat) table.now iu d nat }
+    requires { (e.now.nat ≤ 30) × (elements_ok e.now.iek e.now.nat ≡ true) × (iu ≤ 90) × (table_size ≤ length table.now) }
+    ensures { result ≡ field_to upright k e.now table.now iu d e.now.nat }
 {
     let gamma = gamma_of(k, d);
     let df = across_below(d);
@@ -176,17 +170,16 @@ pub fn field_of<'a>(
         sfr: 0.0,
         sfi: 0.0,
     };
-    let mut n: usize = 0;
-    while n < nat {
-        let i = iek[n + 1];
-        let el = element_at(fi, rim, x, y, rl, i);
-        s = add_element(upright, k.beta, gamma, df, d, el, entry_at(table, iu, i), s);
-        n += 1;
+    for n in 0..e.nat {
+        let i = e.iek[n + 1];
+        let w = entry_at(table, iu, i);
+        s = add_element(upright, k.beta, gamma, df, d, element_at(e, i), w, s);
     }
     s
 }
 
 // Type 5's gain from the sums.
+#[tactic(auto, unfolding(crate::specs::Boom::both_fields))]
 pub fn both_fields(s: Field, d: Direction) -> f32
     ensures { result ≡ both_fields s d }
 {
@@ -196,6 +189,7 @@ pub fn both_fields(s: Field, d: Direction) -> f32
 }
 
 // Type 6's gain from the sums.
+#[tactic(auto, unfolding(crate::specs::Boom::one_field))]
 pub fn one_field(s: Field) -> f32
     ensures { result ≡ one_field s }
 {

@@ -3,7 +3,7 @@ use Prim.Native.Nat.{ℕ, zero, suc, ◌+◌, ◌-◌, ◌/◌, ◌%◌, ◌≤�
 use mathlib.Core.Path.{◌≡◌, refl}
 use mathlib.Core.Bool.{true, false, cond}
 use mathlib.Core.Logic.{⊎_elim}
-use mathlib.Core.Option.{Option, none, some}
+use Rattle.std.specs.Prelude.{Option, None, Some}
 use native.Mathlib.Omega.{arith}
 use lib.Dec.{eqb}
 use borrow.Author.Tests.{lt-ltb, le-ltb, eq-eqb, ne_eqb}
@@ -59,9 +59,9 @@ module _ (t : Time) (r : Real t) where
 
   abbrev next_in_year : Option Time
   next_in_year =
-      cond (before t (to_a year)) (some (to_a year))
-      (cond (before t (to_b year)) (some (to_b year))
-      (cond (eqb year 2099) none (some (to_a (suc year)))))
+      cond (before t (to_a year)) (Some (to_a year))
+      (cond (before t (to_b year)) (Some (to_b year))
+      (cond (eqb year 2099) None (Some (to_a (suc year)))))
 
   -- a change of an earlier year isn't later
   past : (y month : ℕ) → 2000 ≤ y → y < year → 1 ≤ month → month ≤ 12 → before t (change y month) ≡ false
@@ -69,7 +69,7 @@ module _ (t : Time) (r : Real t) where
       let less = earlier_year (change y month) t (change_real y month a (omega arith) c d) r b in
       le-ltb (minutes t) (minutes (change y month)) (omega arith)
 
-  following : (n : ℕ) → year + suc n ≡ 2100 → first_after t (changes_from (suc year) n) ≡ cond (eqb year 2099) none (some (to_a (suc year)))
+  following : (n : ℕ) → year + suc n ≡ 2100 → first_after t (changes_from (suc year) n) ≡ cond (eqb year 2099) None (Some (to_a (suc year)))
   unfolding first_after changes_from
   following zero e = rw (eq-eqb year 2099 (omega arith))
   following (suc n) e =

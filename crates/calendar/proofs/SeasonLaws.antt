@@ -3,13 +3,15 @@ use Prim.Native.Nat.{ℕ, suc, ◌≤◌, ◌<◌}
 use mathlib.Core.Path.{◌≡◌, refl, sym, ap, ◌∙◌}
 use mathlib.Core.Bool.{Bool, true, false, cond}
 use mathlib.Core.Logic.{inl, inr, ⊎_elim, ◌↔◌}
-use mathlib.Core.Option.{Option, none, some}
+use Rattle.std.specs.Prelude.{Option, None, Some}
 use native.Mathlib.Omega.{arith}
 use lib.Dec.{eqb}
 use borrow.Author.Tests.{lt-ltb, le-ltb, ltb-true, ltb-false, eqb-true, eqb-false}
 use Rattle.calendar.specs.declared.time.Time.{Time}
 use Rattle.calendar.specs.Times.{is_time, minutes, before}
-use Rattle.calendar.specs.Seasons.{Season, A, B, other, to_a, to_b, IsChange, IsNext, NextIs, season_at, next_change}
+use Rattle.calendar.specs.declared.seasons.BroadcastSeason.{BroadcastSeason}
+use Rattle.calendar.specs.declared.seasons.BroadcastSeason.TheVariants.{A, B}
+use Rattle.calendar.specs.Seasons.{other, to_a, to_b, IsChange, IsNext, NextIs, season_at, next_change}
 use Rattle.calendar.proofs.Tests.{le_or_lt}
 use Rattle.calendar.proofs.Times.{Real, real, earlier_year, year_order}
 use Rattle.calendar.proofs.Changes.{next_in_year_lem}
@@ -27,7 +29,7 @@ next-change t h = rw (next_in_year_lem t r) (by_tests (before t (to_a t.year)) (
     change-a : (year : ℕ) → t.year ≤ year → year ≤ 2099 → IsChange (to_a year)
     change-a year from to = is-change year 3 (omega (arith, r.year_from)) to (inl refl)
 
-    by_tests : (a b z : Bool) → before t (to_a t.year) ≡ a → before t (to_b t.year) ≡ b → eqb t.year 2099 ≡ z → NextIs t (cond a (some (to_a t.year)) (cond b (some (to_b t.year)) (cond z none (some (to_a (suc t.year))))))
+    by_tests : (a b z : Bool) → before t (to_a t.year) ≡ a → before t (to_b t.year) ≡ b → eqb t.year 2099 ≡ z → NextIs t (cond a (Some (to_a t.year)) (cond b (Some (to_b t.year)) (cond z None (Some (to_a (suc t.year))))))
     by_tests true b z ea eb ez =
         let later : minutes t < minutes (to_a t.year) = ltb-true _ _ ea in
         record {
@@ -60,15 +62,15 @@ next-change t h = rw (next_in_year_lem t r) (by_tests (before t (to_a t.year)) (
         }
 
 -- from the last change in range on there is none, and before it there is one
-pub last-change : (t : Time) → is_time t ≡ true → (next_change t ≡ none) ↔ (minutes (to_b 2099) ≤ minutes t)
+pub last-change : (t : Time) → is_time t ≡ true → (next_change t ≡ None) ↔ (minutes (to_b 2099) ≤ minutes t)
 last-change t h = (λ e. rw e at (next-change t h) (to_b 2099) last, λ late. nothing late (next_change t) (next-change t h))
   where
     last : IsChange (to_b 2099)
     last = is-change 2099 10 (omega arith) (omega arith) (inr refl)
 
-    nothing : minutes (to_b 2099) ≤ minutes t → (o : Option Time) → NextIs t o → o ≡ none
-    nothing late none k = refl
-    nothing late (some c) k =
+    nothing : minutes (to_b 2099) ≤ minutes t → (o : Option Time) → NextIs t o → o ≡ None
+    nothing late None k = refl
+    nothing late (Some c) k =
         absurd (omega (arith, past_year 2099 (omega arith) (omega arith) c k.is-change (omega (arith, k.later)), k.is-change.to))
 
 -- ---- the season
@@ -128,7 +130,7 @@ module _ (t c : Time) (h : is_time t ≡ true) (k : IsNext t c) where
       (change-is c k.is-change)
 
 -- until then it stays
-same-other : (x y : Season) → other x ≡ other y → x ≡ y
+same-other : (x y : BroadcastSeason) → other x ≡ other y → x ≡ y
 same-other A A e = refl
 same-other A B e = sym e
 same-other B A e = sym e
@@ -139,14 +141,14 @@ pub season_stays : (s t : Time) → is_time s ≡ true → is_time t ≡ true �
 season_stays s t hs ht le none_between = by_next (next_change s) (next-change s hs)
   where
     by_next : (o : Option Time) → NextIs s o → season_at s ≡ season_at t
-    by_next (some c) k =
+    by_next (Some c) k =
         let also : IsNext t c = record {
           is-change = k.is-change;
           later = none_between c k.is-change k.later;
           first = λ d hd after. k.first d hd (omega arith);
         } in
         same-other (season_at s) (season_at t) (sym (season_turns s c hs k) ∙ season_turns t c ht also)
-    by_next none k =
+    by_next None k =
         let rs = real s hs in
         let rt = real t ht in
         let b = is-change s.year 10 rs.year_from rs.year_to (inr refl) in

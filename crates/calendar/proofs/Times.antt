@@ -51,9 +51,9 @@ pub is_time_lem : (t : Time) → 2000 ≤ t.year → t.year ≤ 2099 → 1 ≤ t
 unfolding is_time is_date
 is_time_lem t a b c d e = rw (le-leb _ _ a, le-leb _ _ b, le-leb _ _ c, le-leb _ _ d, le-leb _ _ e)
 
-pub none-refused : (t : Time) → refusal_of t ≤ 0 → is_time t ≡ true
+pub none_refused : (t : Time) → refusal_of t ≤ 0 → is_time t ≡ true
 unfolding refusal_of
-none-refused t h = by_test (is_time t) h
+none_refused t h = by_test (is_time t) h
   where
     by_test : (b : Bool) → cond b 0 CALENDAR ≤ 0 → b ≡ true
     by_test true k = refl

@@ -1,14 +1,12 @@
 -- Document 02, card 4: the seasons A and B, and their changes. Definitions only.
-use Rattle.std.specs.Prelude.{ℕ, zero, suc, ◌≤◌, ◌<◌, ◌≡◌, cond, List, [], ◌∷◌, ◌⊎◌}
-use Rattle.std.proofs.Math.Option.{Option, none, some}
+use Rattle.std.specs.Prelude.{ℕ, zero, suc, ◌≤◌, ◌<◌, ◌≡◌, cond, List, [], ◌∷◌, ◌⊎◌, Option, None, Some}
 use Rattle.calendar.specs.declared.time.Time.{Time}
+use Rattle.calendar.specs.declared.seasons.BroadcastSeason.{BroadcastSeason}
+use Rattle.calendar.specs.declared.seasons.BroadcastSeason.TheVariants.{A, B}
 use Rattle.calendar.specs.Days.{LastSunday, last_sunday}
 use Rattle.calendar.specs.Times.{minutes, before}
 
-pub data Season : Type 0 where
-  A B : Season
-
-abbrev pub other : Season → Season
+abbrev pub other : BroadcastSeason → BroadcastSeason
 other A = B
 other B = A
 
@@ -37,7 +35,7 @@ pub record IsChange (c : Time) : Type 0 where
 -- ---- the season at a time
 
 -- A from its change on until that to B, which holds before it and from then on
-unfoldable pub season_at : Time → Season
+unfoldable pub season_at : Time → BroadcastSeason
 season_at t = cond (before t (to_a t.year)) B (cond (before t (to_b t.year)) A B)
 
 -- ---- the next change
@@ -49,8 +47,8 @@ changes_from year (suc years) = to_a year ∷ to_b year ∷ changes_from (suc ye
 
 -- the first of the changes that is later than t
 unfoldable pub first_after : Time → List Time → Option Time
-first_after t [] = none
-first_after t (c ∷ cs) = cond (before t c) (some c) (first_after t cs)
+first_after t [] = None
+first_after t (c ∷ cs) = cond (before t c) (Some c) (first_after t cs)
 
 -- of those of the years 2000 to 2099
 unfoldable pub next_change : Time → Option Time
@@ -64,5 +62,5 @@ pub record IsNext (t c : Time) : Type 0 where
 
 -- and where there is none, no change is later
 abbrev pub NextIs : Time → Option Time → Type 0
-NextIs t (some c) = IsNext t c
-NextIs t none = (d : Time) → IsChange d → minutes d ≤ minutes t
+NextIs t (Some c) = IsNext t c
+NextIs t None = (d : Time) → IsChange d → minutes d ≤ minutes t

@@ -1,23 +1,19 @@
 // Whether a service is on the air at a minute of the day.
 ghost use Rattle.std.specs.Prelude.{◌≡◌};
+ghost use Rattle.answers.specs.Outcome.{outcome, number_of};
 ghost use Rattle.calendar.specs.Hours.{is_open, hours_refusal};
-ghost use Rattle.calendar.specs.Answers.{hours_told, open_of};
+ghost use Rattle.calendar.specs.Answers.{open_of};
 
-#[derive(Clone, Copy)]
-pub enum HoursAnswer {
-    Open,
-    Shut,
-    Refused(u8),
-}
+use answers::Refusal;
 
-// The refusal's number, 0 where there is none.
-fn refusal(first: u32, end: u32, minute: u32) -> u8
-    ensures { result ≡ hours_refusal first end minute }
+// Three minutes of the day, or the refusal.
+fn check(first: u32, end: u32, minute: u32) -> Result<(), Refusal>
+    ensures { number_of result ≡ hours_refusal first end minute }
 {
     if (first <= 1439) & (end <= 1439) & (minute <= 1439) {
-        0
+        Ok(())
     } else {
-        answers::CALENDAR
+        Err(Refusal::Calendar)
     }
 }
 
@@ -33,16 +29,10 @@ fn is_open(first: u32, end: u32, minute: u32) -> bool
 }
 
 // Whether a service that runs from its first minute to its end minute is open.
-pub fn open(first: u32, end: u32, minute: u32) -> HoursAnswer
-    ensures { hours_told result ≡ open_of first end minute }
+#[tactic(auto, using(answers::proofs::Outcome::refused_by), unfolding(crate::specs::Answers::open_of))]
+pub fn open(first: u32, end: u32, minute: u32) -> Result<bool, Refusal>
+    ensures { outcome result ≡ open_of first end minute }
 {
-    let number = refusal(first, end, minute);
-    if 0 < number {
-        return HoursAnswer::Refused(number);
-    }
-    if is_open(first, end, minute) {
-        HoursAnswer::Open
-    } else {
-        HoursAnswer::Shut
-    }
+    check(first, end, minute)?;
+    Ok(is_open(first, end, minute))
 }

@@ -2,23 +2,16 @@
 ghost use Rattle.std.specs.Prelude.{◌≡◌, true, ◌+◌, ◌-◌, ◌*◌, ◌/◌, ◌%◌, ◌≤◌};
 ghost use Rattle.calendar.specs.Times.{is_time, before};
 ghost use Rattle.calendar.specs.Seasons.{to_a, to_b, season_at, next_change};
-ghost use Rattle.answers.specs.Outcome.{accepted};
-ghost use Rattle.calendar.specs.Answers.{season_told, season_of, next_told, next_of};
+ghost use Rattle.answers.specs.Outcome.{outcome};
+ghost use Rattle.calendar.specs.Answers.{season_of, next_of};
 
-use crate::time::{Time, refusal};
+use crate::time::{Time, check};
+use answers::Refusal;
 
-#[derive(Clone, Copy)]
-pub enum SeasonAnswer {
+#[derive(Clone, Copy, Debug, PartialEq, Eq)]
+pub enum BroadcastSeason {
     A,
     B,
-    Refused(u8),
-}
-
-#[derive(Clone, Copy)]
-pub enum NextAnswer {
-    Change(Time),
-    Nothing,
-    Refused(u8),
 }
 
 // A change comes at 01:00.
@@ -75,56 +68,52 @@ fn is_before(t: Time, c: Time) -> bool
     place(t) < place(c)
 }
 
-fn season_at(t: Time) -> SeasonAnswer
+fn season_at(t: Time) -> BroadcastSeason
     requires { is_time t ≡ true }
-    ensures { season_told result ≡ accepted (season_at t) }
+    ensures { result ≡ season_at t }
 {
     if is_before(t, to_a(t.year)) {
-        return SeasonAnswer::B;
+        return BroadcastSeason::B;
     }
     if is_before(t, to_b(t.year)) {
-        return SeasonAnswer::A;
+        return BroadcastSeason::A;
     }
-    SeasonAnswer::B
+    BroadcastSeason::B
 }
 
 // The season at a time.
-pub fn season(t: Time) -> SeasonAnswer
-    ensures { season_told result ≡ season_of t }
+#[tactic(auto, using(answers::proofs::Outcome::refused_by, crate::proofs::Times::none_refused), unfolding(crate::specs::Answers::season_of))]
+pub fn season(t: Time) -> Result<BroadcastSeason, Refusal>
+    ensures { outcome result ≡ season_of t }
 {
-    let number = refusal(t);
-    if 0 < number {
-        return SeasonAnswer::Refused(number);
-    }
-    season_at(t)
+    check(t)?;
+    Ok(season_at(t))
 }
 
 // The first change of a time's year or the next that is later.
-fn next_after(t: Time) -> NextAnswer
+fn next_after(t: Time) -> Option<Time>
     requires { is_time t ≡ true }
-    ensures { next_told result ≡ accepted (next_change t) }
+    ensures { result ≡ next_change t }
 {
     let march = to_a(t.year);
     if is_before(t, march) {
-        return NextAnswer::Change(march);
+        return Some(march);
     }
     let october = to_b(t.year);
     if is_before(t, october) {
-        return NextAnswer::Change(october);
+        return Some(october);
     }
     if t.year == 2099 {
-        return NextAnswer::Nothing;
+        return None;
     }
-    NextAnswer::Change(to_a(t.year + 1))
+    Some(to_a(t.year + 1))
 }
 
 // The next change of season, always later than the time given.
-pub fn next_change(t: Time) -> NextAnswer
-    ensures { next_told result ≡ next_of t }
+#[tactic(auto, using(answers::proofs::Outcome::refused_by, crate::proofs::Times::none_refused), unfolding(crate::specs::Answers::next_of))]
+pub fn next_change(t: Time) -> Result<Option<Time>, Refusal>
+    ensures { outcome result ≡ next_of t }
 {
-    let number = refusal(t);
-    if 0 < number {
-        return NextAnswer::Refused(number);
-    }
-    next_after(t)
+    check(t)?;
+    Ok(next_after(t))
 }

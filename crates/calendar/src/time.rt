@@ -1,10 +1,13 @@
 // A time of the calendar, and whether there is such a one.
 ghost use Rattle.std.specs.Prelude.{◌≡◌};
 ghost use Rattle.calendar.specs.Days.{leap, month_length};
+ghost use Rattle.answers.specs.Outcome.{number_of};
 ghost use Rattle.calendar.specs.Times.{is_date, refusal_of};
 
+use answers::Refusal;
+
 // A date and a minute of the day in UTC; January is month 1.
-#[derive(Clone, Copy)]
+#[derive(Clone, Copy, Debug, PartialEq, Eq)]
 pub struct Time {
     pub year: u32,
     pub month: u32,
@@ -39,13 +42,13 @@ fn is_date(t: Time) -> bool
     (2000 <= t.year) & (t.year <= 2099) & (1 <= t.day) & (t.day <= month_length(t.year, t.month))
 }
 
-// The refusal's number, 0 where there is none.
-pub(crate) fn refusal(t: Time) -> u8
-    ensures { result ≡ refusal_of t }
+// A time of these years, or the refusal.
+pub(crate) fn check(t: Time) -> Result<(), Refusal>
+    ensures { number_of result ≡ refusal_of t }
 {
     if is_date(t) & (t.minute <= 1439) {
-        0
+        Ok(())
     } else {
-        answers::CALENDAR
+        Err(Refusal::Calendar)
     }
 }

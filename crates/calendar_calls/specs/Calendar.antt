@@ -1,10 +1,10 @@
 -- `hf_season`, `hf_next_season` and `hf_open`: the calendar's answers as one number. Definitions only.
-use Rattle.std.specs.Prelude.{ℕ, Bool, true, false, cond, not, List, [], ◌∷◌, length, eqb}
-use Rattle.std.proofs.Math.Option.{Option, none, some}
+use Rattle.std.specs.Prelude.{ℕ, Bool, true, false, cond, not, List, [], ◌∷◌, length, eqb, Option, Some, None}
 use Rattle.answers.specs.Outcome.{Outcome, refused, accepted}
 use Rattle.answers.specs.Refusals.{SPACE}
 use Rattle.calendar.specs.declared.time.Time.{Time}
-use Rattle.calendar.specs.Seasons.{Season, A, B}
+use Rattle.calendar.specs.declared.seasons.BroadcastSeason.{BroadcastSeason}
+use Rattle.calendar.specs.declared.seasons.BroadcastSeason.TheVariants.{A, B}
 use Rattle.calendar.specs.Answers.{season_of, next_of, open_of}
 use Rattle.packed.specs.Packed.{refused_as}
 use Rattle.packed.specs.Lists.{Left, left}
@@ -19,7 +19,7 @@ time_of year month day minute = record { year = year; month = month; day = day; 
 
 -- ---- the season
 
-abbrev pub season_number : Season → ℕ
+abbrev pub season_number : BroadcastSeason → ℕ
 season_number A = 0
 season_number B = 1
 
@@ -33,8 +33,8 @@ time_words t = t.year ∷ t.month ∷ t.day ∷ t.minute ∷ []
 
 -- 1 with the change; 0, or a refusal's number, with the lent words as they were
 unfoldable pub next_left : Outcome (Option Time) → List ℕ → Left
-next_left (accepted (some c)) out = left 1 (time_words c)
-next_left (accepted none) out = left 0 out
+next_left (accepted (Some c)) out = left 1 (time_words c)
+next_left (accepted None) out = left 0 out
 next_left (refused n) out = left (refused_as n) out
 
 -- SPACE for words of another number

@@ -4,36 +4,31 @@
 // and `open` take any words, and answer what `calendar` answers of them (specs/Calendar.antt); the next
 // change is left in four lent words, which a refusal leaves as they were.
 ghost use Rattle.std.specs.Prelude.{◌≡◌, length};
-ghost use Rattle.calendar.specs.Answers.{season_told, next_told, hours_told};
+ghost use Rattle.answers.specs.Outcome.{outcome};
 ghost use Rattle.packed.specs.Lists.{left};
-ghost use Rattle.calendar_calls.specs.Calendar.{numbered, season_number, open_number, time_words, next_left, season_call, next_season_call, open_call};
+ghost use Rattle.calendar_calls.specs.Calendar.{time_words, next_left, season_call, next_season_call, open_call};
 
-use calendar::hours::HoursAnswer;
-use calendar::seasons::{NextAnswer, SeasonAnswer, next_change};
+use answers::Refusal;
+use calendar::seasons::{BroadcastSeason, next_change};
 use calendar::time::Time;
-use packed::REFUSED;
+use packed::refused;
 
-// 0 for A, 1 for B, or kind 3 with a refusal's number.
-fn pack_season(s: SeasonAnswer) -> u64
-    ensures { result ≡ numbered season_number (season_told s) }
-{
-    match s {
-        SeasonAnswer::A => 0,
-        SeasonAnswer::B => 1,
-        SeasonAnswer::Refused(n) => REFUSED + n as u64,
-    }
-}
-
-// The season at a time.
+// The season at a time: 0 for A, 1 for B.
+#[tactic(auto, unfolding(crate::specs::Calendar::season_call, crate::specs::Calendar::numbered))]
 pub fn season(year: u32, month: u32, day: u32, minute: u32) -> u64
     ensures { result ≡ season_call year month day minute }
 {
-    pack_season(calendar::seasons::season(Time {
+    let t = Time {
         year,
         month,
         day,
         minute,
-    }))
+    };
+    match calendar::seasons::season(t) {
+        Ok(BroadcastSeason::A) => 0,
+        Ok(BroadcastSeason::B) => 1,
+        Err(r) => refused(r),
+    }
 }
 
 fn put_time(t: Time, out: &mut [u32])
@@ -47,50 +42,47 @@ fn put_time(t: Time, out: &mut [u32])
 }
 
 // 1 with the change in the lent words, 0 where there is none, or kind 3 with a refusal's number.
-fn put_next(next: NextAnswer, out: &mut [u32]) -> u64
+#[tactic(auto, unfolding(crate::specs::Calendar::next_left))]
+fn put_next(next: Result<Option<Time>, Refusal>, out: &mut [u32]) -> u64
     requires { length out.old ≡ 4 }
-    ensures { left result out.new ≡ next_left (next_told next) out.old }
+    ensures { left result out.new ≡ next_left (outcome next) out.old }
 {
     match next {
-        NextAnswer::Change(c) => {
+        Ok(Some(c)) => {
             put_time(c, out);
             1
         }
-        NextAnswer::Nothing => 0,
-        NextAnswer::Refused(n) => REFUSED + n as u64,
+        Ok(None) => 0,
+        Err(r) => refused(r),
     }
 }
 
 // The next change of season; 8 first for words of another number.
+#[tactic(auto, unfolding(crate::specs::Calendar::next_season_call, crate::specs::Calendar::next_left))]
 pub fn next_season(year: u32, month: u32, day: u32, minute: u32, out: &mut [u32]) -> u64
     ensures { left result out.new ≡ next_season_call year month day minute out.old }
 {
     if out.len() != 4 {
-        return REFUSED + answers::SPACE as u64;
+        return refused(Refusal::Space);
     }
-    let next = next_change(Time {
-        year,
-        month,
-        day,
-        minute,
-    });
-    put_next(next, out)
+    put_next(
+        next_change(Time {
+            year,
+            month,
+            day,
+            minute,
+        }),
+        out,
+    )
 }
 
-// 1 for open, 0 for shut, or kind 3 with a refusal's number.
-fn pack_hours(h: HoursAnswer) -> u64
-    ensures { result ≡ numbered open_number (hours_told h) }
-{
-    match h {
-        HoursAnswer::Open => 1,
-        HoursAnswer::Shut => 0,
-        HoursAnswer::Refused(n) => REFUSED + n as u64,
-    }
-}
-
-// Whether a service is open at a minute of the day.
+// 1 where a service is open at a minute of the day, 0 where it is shut.
+#[tactic(auto, unfolding(crate::specs::Calendar::open_call, crate::specs::Calendar::numbered))]
 pub fn open(first: u32, end: u32, minute: u32) -> u64
     ensures { result ≡ open_call first end minute }
 {
-    pack_hours(calendar::hours::open(first, end, minute))
+    match calendar::hours::open(first, end, minute) {
+        Ok(is_open) => u64::from(is_open),
+        Err(r) => refused(r),
+    }
 }

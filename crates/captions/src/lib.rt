@@ -4,7 +4,7 @@
 // the four winds (`winds_text`), the peak's dot, number and azimuth with front-to-back (`dot_text`,
 // `foot_text`), what grey and dashes are (`fold_text`, `dashed_text`), a row without a level (`all_floor_text`,
 // `silence_text`), and the sentence of a refusal (`sentence_of`).
-ghost use Rattle.std.specs.Prelude.{◌+◌, ◌≤◌, length};
+ghost use Rattle.std.specs.Prelude.{◌≡◌, ◌+◌, ◌≤◌, length};
 ghost use Rattle.labels.specs.Writing.{Put};
 ghost use Rattle.captions.specs.Words.{name_of, winds_text, head_text, dot_text, foot_text, fold_text, dashed_text, all_floor_text, silence_text, shown_where, mast_of, sentence_of};
 
@@ -24,43 +24,31 @@ pub struct Heading {
     pub elevation: u32,
 }
 
+#[tactic(auto, unfolding(crate::specs::Words::name_of, crate::specs::Words::beside, quoted::specs::Quoted::quoted))]
+fn name(antenna: u32) -> &'static [u8]
+    ensures { (result.now ≡ name_of antenna) × (length result.now ≤ 60) }
+{
+    match antenna {
+        1 => b"multiband aperiodic reflector dipole array",
+        2 => b"dual-band centre-fed tuned reflector dipole array",
+        3 => b"dual-band end-fed tuned reflector dipole array",
+        4 => b"tropical antenna",
+        5 => b"horizontal log-periodic",
+        6 => b"vertical log-periodic",
+        7 => b"horizontal rhombic",
+        8 => b"quadrant antenna",
+        9 => b"cross-dipole antenna",
+        _ => b"NTIA curtain array",
+    }
+}
+
 // Inner step: the antenna's name.
+#[tactic(auto, using(labels::proofs::Put::upto))]
 pub fn push_name(out: &mut [u8], at: usize, antenna: u32) -> usize
     requires { at + 60 ≤ length out.old }
     ensures { Put 60 out.old at (name_of antenna) out.new result }
 {
-    if antenna == 1 {
-        return push_bytes(out, at, b"multiband aperiodic reflector dipole array");
-    }
-    if antenna == 2 {
-        return push_bytes(
-            out,
-            at,
-            b"dual-band centre-fed tuned reflector dipole array",
-        );
-    }
-    if antenna == 3 {
-        return push_bytes(out, at, b"dual-band end-fed tuned reflector dipole array");
-    }
-    if antenna == 4 {
-        return push_bytes(out, at, b"tropical antenna");
-    }
-    if antenna == 5 {
-        return push_bytes(out, at, b"horizontal log-periodic");
-    }
-    if antenna == 6 {
-        return push_bytes(out, at, b"vertical log-periodic");
-    }
-    if antenna == 7 {
-        return push_bytes(out, at, b"horizontal rhombic");
-    }
-    if antenna == 8 {
-        return push_bytes(out, at, b"quadrant antenna");
-    }
-    if antenna == 9 {
-        return push_bytes(out, at, b"cross-dipole antenna");
-    }
-    push_bytes(out, at, b"NTIA curtain array")
+    push_bytes(out, at, name(antenna))
 }
 
 // Inner step: the four winds.
@@ -131,30 +119,44 @@ pub fn push_foot(
     push_bytes(out, end, b" dB</text>\n")
 }
 
-// Inner step: what grey is, where something is folded over.
-pub fn push_fold_key(out: &mut [u8], at: usize, fold: bool) -> usize
-    requires { at + 70 ≤ length out.old }
-    ensures { Put 70 out.old at (shown_where fold fold_text) out.new result }
+// Inner step: words where something is so.
+#[tactic(auto, using(labels::proofs::Put::upto, words::proofs::Writing::wrote_none))]
+pub fn push_where(out: &mut [u8], at: usize, so: bool, words: &[u8]) -> usize
+    requires { at + length words.now ≤ length out.old }
+    ensures { Put (length words.now) out.old at (shown_where so words.now) out.new result }
 {
-    if fold {
-        return push_bytes(
-            out,
-            at,
-            b"<text x='7850' y='7480' text-anchor='end'>grey: folded over</text>\n",
-        );
+    if so {
+        return push_bytes(out, at, words);
     }
     at
 }
 
+// Inner step: what grey is, where something is folded over.
+#[tactic(auto, using(labels::proofs::Put::more), unfolding(crate::specs::Words::fold_text, quoted::specs::Quoted::quoted))]
+pub fn push_fold_key(out: &mut [u8], at: usize, fold: bool) -> usize
+    requires { at + 70 ≤ length out.old }
+    ensures { Put 70 out.old at (shown_where fold fold_text) out.new result }
+{
+    push_where(
+        out,
+        at,
+        fold,
+        b"<text x='7850' y='7480' text-anchor='end'>grey: folded over</text>\n",
+    )
+}
+
 // Inner step: what dashes are, where there are floors.
+#[tactic(auto, using(labels::proofs::Put::more), unfolding(crate::specs::Words::dashed_text, quoted::specs::Quoted::quoted))]
 pub fn push_dashed_key(out: &mut [u8], at: usize, floors: bool) -> usize
     requires { at + 50 ≤ length out.old }
     ensures { Put 50 out.old at (shown_where floors dashed_text) out.new result }
 {
-    if floors {
-        return push_bytes(out, at, b"<text x='150' y='7480'>dashed: floor</text>\n");
-    }
-    at
+    push_where(
+        out,
+        at,
+        floors,
+        b"<text x='150' y='7480'>dashed: floor</text>\n",
+    )
 }
 
 // Inner step: a row whose peak is a floor.
@@ -181,69 +183,51 @@ pub fn push_silence(out: &mut [u8], at: usize) -> usize
     )
 }
 
-// Inner step: which of two masts a refusal is of.
-pub fn push_mast(out: &mut [u8], at: usize, mast: u8) -> usize
-    requires { at + 3 ≤ length out.old }
-    ensures { Put 3 out.old at (mast_of mast) out.new result }
+#[tactic(auto, unfolding(crate::specs::Words::mast_of, crate::specs::Words::beside, quoted::specs::Quoted::quoted))]
+fn mast(number: u8) -> &'static [u8]
+    ensures { (result.now ≡ mast_of number) × (length result.now ≤ 3) }
 {
-    if mast == 1 {
-        return push_bytes(out, at, b"A: ");
+    match number {
+        1 => b"A: ",
+        2 => b"B: ",
+        _ => b"",
     }
-    if mast == 2 {
-        return push_bytes(out, at, b"B: ");
+}
+
+// Inner step: which of two masts a refusal is of.
+#[tactic(auto, using(labels::proofs::Put::upto))]
+pub fn push_mast(out: &mut [u8], at: usize, number: u8) -> usize
+    requires { at + 3 ≤ length out.old }
+    ensures { Put 3 out.old at (mast_of number) out.new result }
+{
+    push_bytes(out, at, mast(number))
+}
+
+#[tactic(auto, unfolding(crate::specs::Words::sentence_of, crate::specs::Words::beside, quoted::specs::Quoted::quoted))]
+fn sentence(number: u32) -> &'static [u8]
+    ensures { (result.now ≡ sentence_of number) × (length result.now ≤ 60) }
+{
+    match number {
+        1 => b"this is no station of 237 bytes, and no good card",
+        2 => b"a number of the station isn't finite",
+        3 => b"the type is not 1 to 9, nor is this a curtain",
+        4 => b"there is no such mode of the maximum gain",
+        5 => b"the MHz or the design MHz is under 1, or 31 or more",
+        6 => b"dipoles are not 0 to 64, or elements not 2 to 30",
+        7 => b"elevation not a whole 0 to 90, or wrong slew or start",
+        8 => b"the space for the answer is too short",
+        9 => b"a gain in the search isn't finite: is a size 0?",
+        10 => b"a gain isn't finite",
+        18 => b"a gain is beyond 1,000 dBi or -1,000 dBi",
+        _ => b"",
     }
-    at
 }
 
 // Inner step: why a plate was refused.
+#[tactic(auto, using(labels::proofs::Put::upto))]
 pub fn push_sentence(out: &mut [u8], at: usize, number: u32) -> usize
     requires { at + 60 ≤ length out.old }
     ensures { Put 60 out.old at (sentence_of number) out.new result }
 {
-    if number == 1 {
-        return push_bytes(
-            out,
-            at,
-            b"this is no station of 237 bytes, and no good card",
-        );
-    }
-    if number == 2 {
-        return push_bytes(out, at, b"a number of the station isn't finite");
-    }
-    if number == 3 {
-        return push_bytes(out, at, b"the type is not 1 to 9, nor is this a curtain");
-    }
-    if number == 4 {
-        return push_bytes(out, at, b"there is no such mode of the maximum gain");
-    }
-    if number == 5 {
-        return push_bytes(
-            out,
-            at,
-            b"the MHz or the design MHz is under 1, or 31 or more",
-        );
-    }
-    if number == 6 {
-        return push_bytes(out, at, b"dipoles are not 0 to 64, or elements not 2 to 30");
-    }
-    if number == 7 {
-        return push_bytes(
-            out,
-            at,
-            b"elevation not a whole 0 to 90, or wrong slew or start",
-        );
-    }
-    if number == 8 {
-        return push_bytes(out, at, b"the space for the answer is too short");
-    }
-    if number == 9 {
-        return push_bytes(out, at, b"a gain in the search isn't finite: is a size 0?");
-    }
-    if number == 10 {
-        return push_bytes(out, at, b"a gain isn't finite");
-    }
-    if number == 18 {
-        return push_bytes(out, at, b"a gain is beyond 1,000 dBi or -1,000 dBi");
-    }
-    at
+    push_bytes(out, at, sentence(number))
 }

@@ -1,8 +1,9 @@
 -- The reader accepts the good cards, and no others. Assumes nothing.
 use mathlib.Core.Path.{◌≡◌, refl, sym, ◌∙◌}
-use mathlib.Core.Bool.{Bool, true, false, cond, ◌&&◌, true≢false}
+use mathlib.Core.Bool.{true, false, cond, ◌&&◌, true≢false}
 use Prim.Native.Nat.{ℕ, suc, ◌-◌, ◌≤◌, ◌<◌}
 use native.Mathlib.Omega.{arith}
+use Rattle.std.specs.Prelude.{Option, Some, None, is_some}
 use lib.Dec.{eqb, ltb}
 use lib.ListN.{length}
 use borrow.Author.Tests.{eqb-true, eqb-false, eq-eqb, ne_eqb, ltb-false, le-ltb}
@@ -13,38 +14,29 @@ use Rattle.fields.specs.Names.{TYPE, FIELDS, name_of, is_named, field_of}
 use Rattle.fields.specs.Table.{has_field, count_of}
 use Rattle.fields.proofs.Least.{by_test, least_passes, least-none, least_first, least-all, least-le}
 use Rattle.card.specs.declared.mistakes.Fault.{Fault}
-use Rattle.card.specs.declared.mistakes.Fault.TheVariants.{Nothing, Unknown, Twice, Foreign, TooFew, TooMany, NotANumber, TooLarge, Limit, Missing}
 use Rattle.card.specs.declared.mistakes.Mistake.{Mistake}
 use Rattle.card.specs.Card.{Line, Card, word, field_in, line_at, line_with, line_of}
-use Rattle.card.specs.Mistake.{is_fault, is_mistake, mistake, good}
-use Rattle.card.specs.Mistakes.{word_fault, is_bad, first_bad, field_fault, mistake_in, is_wrong, first_mistake, type_mistake, is_missing, first_missing, missing_field, or_else, card_mistake}
+use Rattle.card.specs.Mistake.{told, or_else}
+use Rattle.card.specs.Mistakes.{word_fault, is_bad, first_bad, field_fault, mistake_in, is_wrong, first_mistake, type_mistake, is_missing, first_missing, missing_field, card_mistake}
 use Rattle.card.specs.Good.{GoodLine, GoodCard}
 
-no_fault : (w : Fault) → is_fault w ≡ false → w ≡ Nothing
-unfolding is_fault
-no_fault Nothing e = refl
-no_fault Unknown e = absurd (true≢false e)
-no_fault (Twice i) e = absurd (true≢false e)
-no_fault Foreign e = absurd (true≢false e)
-no_fault TooFew e = absurd (true≢false e)
-no_fault TooMany e = absurd (true≢false e)
-no_fault NotANumber e = absurd (true≢false e)
-no_fault TooLarge e = absurd (true≢false e)
-no_fault (Limit n) e = absurd (true≢false e)
-no_fault Missing e = absurd (true≢false e)
-
-nothing_wrong : {w : Fault} → w ≡ Nothing → is_fault w ≡ false
-unfolding is_fault
-nothing_wrong e = rw e
-
--- what would have been a mistake was not chosen
-not_chosen : (b : Bool) (m n : Mistake) → (b ≡ true → is_mistake m ≡ true) → is_mistake (cond b m n) ≡ false → (b ≡ false) × (is_mistake n ≡ false)
-not_chosen true m n t e = absurd (true≢false (sym (t refl) ∙ e))
-not_chosen false m n t e = (refl, e)
+none : {A : Type 0} (o : Option A) → is_some o ≡ false → o ≡ None
+none None e = refl
+none (Some x) e = absurd (true≢false e)
 
 -- where the first mistake or else the second is none, neither is one
-neither : (m n : Mistake) → is_mistake (or_else m n) ≡ false → (is_mistake m ≡ false) × (is_mistake n ≡ false)
-neither m n e = not_chosen (is_mistake m) m n (λ t. t) e
+neither : (m n : Option Mistake) → is_some (or_else m n) ≡ false → (is_some m ≡ false) × (is_some n ≡ false)
+neither None n e = (refl, e)
+neither (Some m) n e = absurd (true≢false e)
+
+both : (m n : Option Mistake) → is_some m ≡ false → is_some n ≡ false → is_some (or_else m n) ≡ false
+both None n e f = f
+both (Some m) n e f = absurd (true≢false e)
+
+-- what is told is a mistake where something is wrong
+told_as : (i f k : ℕ) (w : Option Fault) → is_some (told i f k w) ≡ is_some w
+told_as i f k None = refl
+told_as i f k (Some w) = refl
 
 module _ (kind : Kind) (card : Card) where
   -- ---- a line
@@ -78,8 +70,8 @@ module _ (kind : Kind) (card : Card) where
       enough : ltb n (count_of kind f) ≡ false
       no_more : ltb (count_of kind f) n ≡ false
 
-    right_field : is_fault (field_fault kind card i) ≡ false → RightField
-    unfolding field_fault is_fault
+    right_field : is_some (field_fault kind card i) ≡ false → RightField
+    unfolding field_fault
     right_field e =
         let a : eqb f 0 ≡ false = by_test (eqb f 0) (λ q. absurd (true≢false (rw q at e))) (λ q. q) in
         let b : ltb (line_of card f) i ≡ false = by_test (ltb (line_of card f) i) (λ q. absurd (true≢false (rw (a, q) at e))) (λ q. q) in
@@ -88,26 +80,26 @@ module _ (kind : Kind) (card : Card) where
         let g : ltb (count_of kind f) n ≡ false = by_test (ltb (count_of kind f) n) (λ q. absurd (true≢false (rw (a, b, c, d, q) at e))) (λ q. q) in
         record { known = a; first = b; its = c; enough = d; no_more = g }
 
-    field_right : RightField → field_fault kind card i ≡ Nothing
+    field_right : RightField → field_fault kind card i ≡ None
     unfolding field_fault
     field_right r = rw (r.known, r.first, r.its, r.enough, r.no_more)
 
     -- a line with words in it is right where its field and its numbers are
-    right_line : 1 ≤ length line → is_wrong kind card i ≡ false → (is_fault (field_fault kind card i) ≡ false) × (first_bad kind line ≡ 0)
+    right_line : 1 ≤ length line → is_wrong kind card i ≡ false → (is_some (field_fault kind card i) ≡ false) × (first_bad kind line ≡ 0)
     unfolding mistake_in first_bad
     right_line h e =
         let k = first_bad kind line in
-        let later = cond (eqb k 0) good (mistake (word_fault kind f k (word line k)) i f k) in
-        let one = not_chosen (is_fault (field_fault kind card i)) (mistake (field_fault kind card i) i f 0) later (λ q. q) (rw (ne_eqb (length line) 0 (λ z. omega arith)) at e) in (
-          one.0,
+        let wrong = word_fault kind f k (word line k) in
+        let one = neither (told i f 0 (field_fault kind card i)) (cond (eqb k 0) None (told i f k wrong)) (rw (ne_eqb (length line) 0 (λ z. omega arith)) at e) in (
+          sym (told_as i f 0 (field_fault kind card i)) ∙ one.0,
           by_test (eqb k 0) (λ q. eqb-true k 0 q) (λ q.
               let z = eqb-false k 0 q in
-              absurd (true≢false (sym (least_passes (is_bad kind line) n (omega (arith, z))) ∙ rw q at one.1))),
+              absurd (true≢false (sym (least_passes (is_bad kind line) n (omega (arith, z))) ∙ (sym (told_as i f k wrong) ∙ rw q at one.1)))),
         )
 
-    line_right : is_fault (field_fault kind card i) ≡ false → first_bad kind line ≡ 0 → is_wrong kind card i ≡ false
-    unfolding mistake_in is_fault
-    line_right e k = by_test (eqb (length line) 0) (λ q. rw q) (λ q. rw (q, e, k))
+    line_right : is_some (field_fault kind card i) ≡ false → first_bad kind line ≡ 0 → is_wrong kind card i ≡ false
+    unfolding mistake_in
+    line_right e k = by_test (eqb (length line) 0) (λ q. rw q) (λ q. rw (q, none (field_fault kind card i) e, k))
 
   -- ---- what a line that isn't wrong is
 
@@ -119,9 +111,9 @@ module _ (kind : Kind) (card : Card) where
       let known : 1 ≤ f i = omega (arith, eqb-false (f i) 0 r.known) in
       let own = own_name i h l known in
       let same : n i ≡ count_of kind (f i) = omega (arith, ltb-false (n i) (count_of kind (f i)) r.enough, ltb-false (count_of kind (f i)) (n i) r.no_more) in
-      let right : (k : ℕ) → 1 ≤ k → k ≤ count_of kind (f i) → word_fault kind (f i) k (word (line i) k) ≡ Nothing = λ k low high.
+      let right : (k : ℕ) → 1 ≤ k → k ≤ count_of kind (f i) → word_fault kind (f i) k (word (line i) k) ≡ None = λ k low high.
       let e : suc (k - 1) ≡ k = omega arith in
-      no_fault _ (rw e at (least-none (is_bad kind (line i)) (n i) parts.1 (k - 1) (omega arith))) in
+      none _ (rw e at (least-none (is_bad kind (line i)) (n i) parts.1 (k - 1) (omega arith))) in
       record {
         known = known;
         first = omega (arith, own.1, ltb-false (line_of card (f i)) i r.first);
@@ -142,10 +134,10 @@ module _ (kind : Kind) (card : Card) where
         enough = le-ltb (n i) (count_of kind (f i)) (omega arith);
         no_more = le-ltb (count_of kind (f i)) (n i) (omega arith);
       } in
-      line_right i (nothing_wrong (field_right i r)) (least-all (is_bad kind (line i)) (n i) (λ k h. nothing_wrong (g.numbers.right (suc k) (omega arith) (omega arith))))
+      line_right i (rw (field_right i r)) (least-all (is_bad kind (line i)) (n i) (λ k h. rw (g.numbers.right (suc k) (omega arith) (omega arith))))
 
   empty_right : (i : ℕ) → length (line_at card i) ≡ 0 → is_wrong kind card i ≡ false
-  unfolding mistake_in is_fault
+  unfolding mistake_in
   empty_right i e = rw (eq-eqb _ _ e)
 
   -- ---- a card
@@ -155,8 +147,8 @@ module _ (kind : Kind) (card : Card) where
   line_0_right = empty_right 0 refl
 
   -- an accepted card is a good one
-  pub good_card : is_mistake (card_mistake kind card) ≡ false → GoodCard kind card
-  unfolding card_mistake first_mistake type_mistake missing_field first_missing is_fault
+  pub good_card : is_some (card_mistake kind card) ≡ false → GoodCard kind card
+  unfolding card_mistake first_mistake type_mistake missing_field first_missing
   good_card e =
       let one = neither (type_mistake kind card) (or_else (first_mistake kind card) (missing_field kind card)) e in
       let two = neither (first_mistake kind card) (missing_field kind card) one.1 in
@@ -186,23 +178,23 @@ module _ (kind : Kind) (card : Card) where
         (λ q. empty_right i (eqb-true (length (line_at card i)) 0 q))
         (λ q. let z = eqb-false (length (line_at card i)) 0 q in right_of_good i (g.lines i h l (omega (arith, z))))
 
-    type_right : is_mistake (type_mistake kind card) ≡ false
+    type_right : is_some (type_mistake kind card) ≡ false
     unfolding type_mistake line_with
     type_right =
         let t = line_of card TYPE in
         rw (ne_eqb t 0 (λ z. omega (arith, g.typed))) (all_right t g.typed (least-le (λ (i : ℕ). alike (name_of TYPE) (word (line_at card i) 0)) (length card)))
 
-    first_right : is_mistake (first_mistake kind card) ≡ false
+    first_right : is_some (first_mistake kind card) ≡ false
     unfolding first_mistake
     first_right = rw (least-all (is_wrong kind card) (length card) (λ i h. all_right (suc i) (omega arith) (omega arith))) line_0_right
 
-    missing_right : is_mistake (missing_field kind card) ≡ false
-    unfolding missing_field first_missing is_fault
+    missing_right : is_some (missing_field kind card) ≡ false
+    unfolding missing_field first_missing
     missing_right = rw (least-all (is_missing kind card) FIELDS there)
       where
         there : (i : ℕ) → i < FIELDS → is_missing kind card (suc i) ≡ false
         there i h = by_test (has_field kind (suc i)) (λ q. rw (q, ne_eqb (line_of card (suc i)) 0 (λ z. omega (arith, g.whole (suc i) (omega arith) (omega arith) q)))) (λ q. rw q)
 
-    pub good-accepted : is_mistake (card_mistake kind card) ≡ false
+    pub good-accepted : is_some (card_mistake kind card) ≡ false
     unfolding card_mistake
-    good-accepted = rw (type_right, first_right) missing_right
+    good-accepted = both (type_mistake kind card) _ type_right (both (first_mistake kind card) _ first_right missing_right)

@@ -13,8 +13,9 @@ use Rattle.words.proofs.Writing.{then}
 use Rattle.words.proofs.Digits.{length_digits}
 use Rattle.floats.specs.Ranges.{all_finite}
 use Rattle.station.specs.declared.Station.{Station}
-use Rattle.station.specs.declared.Verdict.{Verdict}
-use Rattle.station.specs.declared.Verdict.TheVariants.{Accepted, Refused}
+use Rattle.answers.specs.declared.Refusal.{Refusal}
+use Rattle.std.specs.Prelude.{Result, Ok, Err, IsOk}
+use Rattle.std.proofs.Common.{rules}
 use Rattle.station.specs.Header.{typeless}
 use Rattle.station.specs.Record.{floats_of, packed, record_of}
 use Rattle.station.specs.Answers.{answer, write_of}
@@ -23,13 +24,17 @@ pub record_length : (s : Station) → length (record_of 0 s) ≡ 225
 unfolding record_of packed
 record_length s = length_digits 256 225 _
 
--- what the record's writer leaves of 225 bytes
-pub record_written : (s : Station) (lent left : List ℕ) (r : Verdict) → all_finite (floats_of s) ≡ true → s.mode ≤ 3 → length lent ≡ 225
-    → answer r left ≡ write_of 0 s lent → left ≡ record_of 0 s
-unfolding write_of typeless
-record_written s lent left Accepted f m n e = let it = rw (f, le-leb s.mode 3 m, eq-eqb (length lent) 225 n) at e in cc
-record_written s lent left (Refused k) f m n e =
-    let it = rw (f, le-leb s.mode 3 m, eq-eqb (length lent) 225 n) at e in let z : ◌≡◌ {A = ℕ} 0 1 = cc in absurd (omega arith)
+-- what the record's writer answers and leaves of 225 bytes
+module _ {X : Type 0} (s : Station) (lent left : List ℕ) where
+  pub record_taken : (r : Result X Refusal) → all_finite (floats_of s) ≡ true → s.mode ≤ 3 → length lent ≡ 225 → answer r left ≡ write_of 0 s lent → IsOk r
+  unfolding write_of typeless
+  record_taken (Ok x) f m n e = search rules
+  record_taken (Err k) f m n e = let it = rw (f, le-leb s.mode 3 m, eq-eqb (length lent) 225 n) at e in cc
+
+  pub record_written : (r : Result X Refusal) → all_finite (floats_of s) ≡ true → s.mode ≤ 3 → length lent ≡ 225 → answer r left ≡ write_of 0 s lent → left ≡ record_of 0 s
+  unfolding write_of typeless
+  record_written (Ok x) f m n e = let it = rw (f, le-leb s.mode 3 m, eq-eqb (length lent) 225 n) at e in cc
+  record_written (Err k) f m n e = let it = rw (f, le-leb s.mode 3 m, eq-eqb (length lent) 225 n) at e in cc
 
 -- 225 bytes over the first, and three words behind them
 pub bytes-laid : (out r a b c : List ℕ) {first second third last : List ℕ} → length out ≡ 237 → length r ≡ 225 → length a ≡ 4 → length b ≡ 4 → length c ≡ 4

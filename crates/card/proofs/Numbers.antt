@@ -4,6 +4,7 @@ use mathlib.Core.Bool.{true, false}
 use mathlib.Core.List.{List, [], ◌∷◌}
 use Prim.Native.Nat.{ℕ, ◌+◌, ◌-◌, ◌≤◌}
 use native.Mathlib.Omega.{arith}
+use Rattle.std.specs.Prelude.{Some, None, Result, Ok, Err}
 use lib.Dec.{eqb, leb-zero}
 use lib.ListN.{length}
 use lib.Ieee.{Float}
@@ -11,8 +12,8 @@ use borrow.Author.Tests.{eqb-true, eqb-false, ne_eqb, le-leb, not-true}
 use Rattle.quoted.specs.Quoted.{quoted}
 use Rattle.lines.specs.Alike.{alike}
 use Rattle.lines.proofs.Laws.{alike_equal}
-use Rattle.decimal.specs.declared.Reading.{Reading}
-use Rattle.decimal.specs.declared.Reading.TheVariants as read
+use Rattle.decimal.specs.declared.NotRead.{NotRead}
+use Rattle.decimal.specs.declared.NotRead.TheVariants as read
 use Rattle.decimal.specs.Word.{run, is_decimal}
 use Rattle.decimal.specs.Reading as decimal
 use Rattle.fields.specs.declared.Kind.{Kind}
@@ -22,7 +23,7 @@ use Rattle.fields.specs.Table.{CURTAIN, LAST, rows, row_number, is_maximum_gain,
 use Rattle.fields.specs.Limits.{is_count, type_number, takes, refusal_of}
 use Rattle.fields.proofs.Least.{by_test, least-found, least_passes, least-le}
 use Rattle.fields.proofs.Laws.{name_back, first_place, number-placed}
-use Rattle.card.specs.declared.mistakes.Fault.TheVariants.{Nothing, Limit}
+use Rattle.card.specs.declared.mistakes.Fault.TheVariants.{Limit}
 use Rattle.card.specs.Card.{Card, word, field_in, line_at, line_with, line_of, line_for}
 use Rattle.card.specs.Kind.{is_curtain, numbered_type, type_of, type_in}
 use Rattle.card.specs.Mistakes.{read_fault, word_fault}
@@ -39,19 +40,19 @@ unfolding field_of least or_else name_of names quoted alike
 nameless = refl
 
 -- `curtain` is no number
-curtain-word : (w : List ℕ) → is_curtain w ≡ true → decimal.read_of w ≡ read.NotANumber
+curtain-word : (w : List ℕ) → is_curtain w ≡ true → decimal.read_of w ≡ Err read.NotANumber
 unfolding decimal.read_of is_decimal run quoted
 curtain-word w e = ap decimal.read_of (sym (alike_equal (quoted "curtain") w e))
 
 -- what nothing is wrong with is a number that the field takes
-taken : (kind : Kind) (f k : ℕ) (r : Reading) → read_fault kind f k r ≡ Nothing → Taken kind f k r (read_value r)
+taken : (kind : Kind) (f k : ℕ) (r : Result Float NotRead) → read_fault kind f k r ≡ None → Taken kind f k r (read_value r)
 unfolding read_fault read_value
-taken kind f k (read.Number x) e = record {
+taken kind f k (Ok x) e = record {
   reads = refl;
-  taken = by_test (takes kind f k x) (λ q. q) (λ q. let bad : Limit (refusal_of f) ≡ Nothing = rw q at e in let z : ◌≡◌ {A = ℕ} 0 1 = cc in absurd (omega arith));
+  taken = by_test (takes kind f k x) (λ q. q) (λ q. let bad : Some (Limit (refusal_of f)) ≡ None = rw q at e in let z : ◌≡◌ {A = ℕ} 0 1 = cc in absurd (omega arith));
 }
-taken kind f k read.TooLarge e = let z : ◌≡◌ {A = ℕ} 0 1 = cc in absurd (omega arith)
-taken kind f k read.NotANumber e = let z : ◌≡◌ {A = ℕ} 0 1 = cc in absurd (omega arith)
+taken kind f k (Err read.TooLarge) e = let z : ◌≡◌ {A = ℕ} 0 1 = cc in absurd (omega arith)
+taken kind f k (Err read.NotANumber) e = let z : ◌≡◌ {A = ℕ} 0 1 = cc in absurd (omega arith)
 
 -- such a word isn't `curtain`, so it stands for that number
 value_taken : (kind : Kind) (f k : ℕ) (w : List ℕ) {x : Float} → Taken kind f k (decimal.read_of w) x → value_of w ≡ x
@@ -61,7 +62,7 @@ value_taken kind f k w t =
     (λ q. let bad = sym t.reads ∙ curtain-word w q in let z : ◌≡◌ {A = ℕ} 0 1 = cc in absurd (omega arith))
     (λ q. rw (q, t.reads))
 
-typed-number : (w : List ℕ) (x : Float) → is_curtain w ≡ false → decimal.read_of w ≡ read.Number x → type_of w ≡ type_number x
+typed-number : (w : List ℕ) (x : Float) → is_curtain w ≡ false → decimal.read_of w ≡ Ok x → type_of w ≡ type_number x
 unfolding type_of numbered_type
 typed-number w x q e = rw (q, e)
 
@@ -85,7 +86,7 @@ module _ (kind : Kind) (card : Card) (g : GoodCard kind card) where
     unfolding line_with
     field_line = g.lines (line_of card f) there (least-le (λ (j : ℕ). alike (name_of f) (word (line_at card j) 0)) (length card)) some
 
-    number-right : (k : ℕ) → 1 ≤ k → k ≤ count_of kind f → word_fault kind f k (word (line_for card f) k) ≡ Nothing
+    number-right : (k : ℕ) → 1 ≤ k → k ≤ count_of kind f → word_fault kind f k (word (line_for card f) k) ≡ None
     number-right k low high = rw about at field_line.numbers.right k low high
 
   module _ (t : kind.iant ≤ CURTAIN) (m : kind.mode ≤ 3) where
@@ -142,7 +143,6 @@ pub type-le : (w : List ℕ) → type_of w ≤ CURTAIN
 unfolding type_of numbered_type type_number
 type-le w = by_test (is_curtain w) (λ q. rw q (omega arith)) (λ q. rw q (go (decimal.read_of w)))
   where
-    go : (r : Reading) → numbered_type r ≤ CURTAIN
-    go (read.Number x) = omega (arith, least-le (is_count x) 9)
-    go read.TooLarge = omega arith
-    go read.NotANumber = omega arith
+    go : (r : Result Float NotRead) → numbered_type r ≤ CURTAIN
+    go (Ok x) = omega (arith, least-le (is_count x) 9)
+    go (Err e) = omega arith

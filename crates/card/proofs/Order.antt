@@ -5,6 +5,7 @@ use mathlib.Core.List.Permᴰ
 use mathlib.Core.List.{List, [], Permᴰ}
 use Prim.Native.Nat.{ℕ, suc, ◌+◌, ◌-◌, ◌≤◌}
 use native.Mathlib.Omega.{arith}
+use Rattle.std.specs.Prelude.{Ok}
 use lib.Dec.{eqb}
 use lib.ListN.{length}
 use lib.Ieee.{Float}
@@ -17,7 +18,6 @@ use Rattle.fields.specs.Names.{TYPE, GAIN, FIELDS, name_of, is_named, field_of}
 use Rattle.fields.specs.Table.{CURTAIN, is_maximum_gain, mode_of, source_of}
 use Rattle.fields.proofs.Least.{by_test, least-le, least_passes, least_first}
 use Rattle.fields.proofs.Laws.{name_back, source_field, gain-is, gain-mode}
-use Rattle.card.specs.declared.Answer.TheVariants.{Accepted}
 use Rattle.card.specs.declared.Reading.{Reading}
 use Rattle.card.specs.Card.{Line, Card, card_of, word, field_in, line_at, line_with, line_of, line_for}
 use Rattle.card.specs.Kind.{type_of, type_in, decides, mode_in, kind_in}
@@ -174,7 +174,7 @@ module _ {card other : Card} (r : Among other card) (s : Among card other) (g : 
   same-reading = ap reading (λ i p. same_place p i)
     where
       reading : (ℕ → Float) → Reading
-      reading v = record { answer = Accepted; station = station_of kind.mode (filled_to v 56 56); mhz = v 56; design = v 57; elevation = v 58 }
+      reading v = record { station = station_of kind.mode (filled_to v 56 56); mhz = v 56; design = v 57; elevation = v 58 }
 
   -- and it is a good one
   same_whole : (f : ℕ) → 1 ≤ f → f ≤ FIELDS → 1 ≤ line_of card f → 1 ≤ line_of other f
@@ -207,10 +207,10 @@ module _ {card other : Card} (r : Among other card) (s : Among card other) (g : 
       }
 
 -- an accepted card's lines in any other order read to the same station
-pub order_free : (a b : List ℕ) → Permᴰ (card_of a) (card_of b) → (read_of a).answer ≡ Accepted → read_of b ≡ read_of a
+pub order_free : (a b : List ℕ) {reading : Reading} → Permᴰ (card_of a) (card_of b) → read_of a ≡ Ok reading → read_of b ≡ read_of a
 order_free a b p e =
     let r = among (Permᴰ.symm p) in
     let s = among p in
     let g = accepted-good a e in
     let k = same_kind r s g in
-    good-read b (rw k (same_good r s g)) ∙ ap (λ (kind : Kind). accepted kind (card_of b)) k ∙ same-reading r s g ∙ sym (good-read a g)
+    good-read b (rw k (same_good r s g)) ∙ ap (λ (kind : Kind). Ok (accepted kind (card_of b))) k ∙ ap Ok (same-reading r s g) ∙ sym (good-read a g)

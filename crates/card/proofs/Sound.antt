@@ -1,5 +1,5 @@
 -- Whatever the card, its station's floats are finite and its mode is at most 3: the record's writer takes it. Assumes nothing.
-use mathlib.Core.Path.{◌≡◌, refl, ap, ◌∙◌}
+use mathlib.Core.Path.{◌≡◌, refl, ap, subst, ◌∙◌}
 use mathlib.Core.Bool.{Bool, true, false, cond, ◌&&◌}
 use mathlib.Core.List.{List}
 use Prim.Native.Nat.{ℕ, zero, suc, ◌^◌, ◌≤◌}
@@ -9,22 +9,24 @@ use lib.Dec.{eqb, leb, ltb}
 use lib.ListN.{length}
 use lib.Ieee.{Float, neg, binary32, of_bits, round}
 use lib.Ieee.Scale.{finite}
-use Rattle.decimal.specs.declared.Reading.TheVariants.{Number, TooLarge, NotANumber}
+use Rattle.std.specs.Prelude.{Option, Some, None, Result, Ok, Err}
+use Rattle.decimal.specs.declared.NotRead.TheVariants.{TooLarge, NotANumber}
 use Rattle.decimal.specs.Word.{is_negative, signless, is_decimal, numerator, fraction}
 use Rattle.decimal.specs.Reading as decimal
 use Rattle.floats.specs.Ranges.{finite_to, all_finite}
 use Rattle.floats.specs.Filled.{filled_to}
 use Rattle.floats.proofs.Filled.{filled-length, filled_at}
-use Rattle.station.specs.Record.{floats_of, zeros}
+use Rattle.station.specs.Record.{floats_of}
 use Rattle.station.proofs.Arrays.{floats-back}
 use Rattle.fields.specs.declared.Kind.{Kind}
 use Rattle.fields.specs.Table.{CURTAIN, mode_of, source_of}
 use Rattle.card.specs.Card.{Card, card_of, word, line_for}
 use Rattle.card.specs.Kind.{is_curtain, mode_in, kind_in}
 use Rattle.card.specs.Places.{read_value, twelve, value_of, no_factor, unnamed, placed, station_in}
-use Rattle.card.specs.Mistake.{is_mistake}
+use Rattle.card.specs.declared.mistakes.Mistake.{Mistake}
+use Rattle.card.specs.declared.Reading.{Reading}
 use Rattle.card.specs.Mistakes.{card_mistake}
-use Rattle.card.specs.Reading.{mistaken, accepted, read_card, read_of}
+use Rattle.card.specs.Reading.{accepted, unless, read_card, read_of}
 use Rattle.card.specs.Inner.{Writable}
 
 -- ---- every place is finite
@@ -37,11 +39,11 @@ read-finite : (w : List ℕ) → finite (read_value (decimal.read_of w)) ≡ tru
 unfolding decimal.read_of read_value of_bits
 read-finite w = go (is_decimal (signless w)) (round binary32 (is_negative w) (numerator (signless w)) (10 ^ length (fraction (signless w))))
   where
-    held : (t : Bool) (x : Float) → finite x ≡ t → finite (read_value (cond t (Number x) TooLarge)) ≡ true
+    held : (t : Bool) (x : Float) → finite x ≡ t → finite (read_value (cond t (Ok x) (Err TooLarge))) ≡ true
     held true x e = e
     held false x e = refl
 
-    go : (d : Bool) (x : Float) → finite (read_value (cond d (cond (finite x) (Number x) TooLarge) NotANumber)) ≡ true
+    go : (d : Bool) (x : Float) → finite (read_value (cond d (cond (finite x) (Ok x) (Err TooLarge)) (Err NotANumber))) ≡ true
     go true x = held (finite x) x refl
     go false x = refl
 
@@ -75,10 +77,6 @@ station-finite kind card =
     ∙ ap (finite_to (filled_to v 56 56)) (filled-length v 56 56)
     ∙ filled-finite v (placed-finite kind card) 56 56 (le_refl 56)
 
-zeros-finite : all_finite (floats_of (zeros 0)) ≡ true
-unfolding zeros all_finite finite_to of_bits
-zeros-finite = refl
-
 -- ---- the mode
 
 mode_of_le : (f : ℕ) → mode_of f ≤ 2
@@ -100,10 +98,13 @@ mode-le iant card = go (eqb iant _) (mode_of_le _)
 
 -- ---- a reading
 
-pub read_writable : (text : List ℕ) → Writable (read_of text)
-unfolding read_of read_card mistaken accepted zeros station_in kind_in
-read_writable text = go (is_mistake (card_mistake (kind_in (card_of text)) (card_of text)))
+same : {E : Type 0} {a b : Reading} → ◌≡◌ {A = Result Reading E} (Ok a) (Ok b) → a ≡ b
+same e = cc
+
+pub read_writable : (text : List ℕ) {r : Reading} → read_of text ≡ Ok r → Writable r
+unfolding read_of read_card accepted station_in kind_in
+read_writable text e = go (card_mistake (kind_in (card_of text)) (card_of text)) e
   where
-    go : (b : Bool) → Writable (cond b (mistaken (card_mistake (kind_in (card_of text)) (card_of text))) (accepted (kind_in (card_of text)) (card_of text)))
-    go true = record { finite = zeros-finite; mode = omega arith }
-    go false = record { finite = station-finite (kind_in (card_of text)) (card_of text); mode = mode-le _ (card_of text) }
+    go : {r : Reading} (m : Option Mistake) → unless m (accepted (kind_in (card_of text)) (card_of text)) ≡ Ok r → Writable r
+    go None q = subst Writable (same q) (record { finite = station-finite (kind_in (card_of text)) (card_of text); mode = mode-le _ (card_of text) })
+    go (Some m) q = cc

@@ -1,7 +1,7 @@
 -- The walk along a card's lines, by where each starts in the text. Assumes nothing.
 use mathlib.Core.Path.{◌≡◌, refl, sym, ap, subst, ◌∙◌}
 use mathlib.Core.Logic.{⊎_elim}
-use mathlib.Core.Bool.{cond}
+use mathlib.Core.Bool.{Bool, true, false, cond}
 use mathlib.Core.List.{List, [], ◌∷◌, map}
 use Prim.Native.Nat.{ℕ, suc, ◌+◌, ◌-◌, ◌≤◌, ◌<◌}
 use native.Mathlib.Nat.{add-zero, eq-or-lt_of_le}
@@ -17,7 +17,9 @@ use Rattle.lines.specs.Words.{words_of}
 use Rattle.lines.proofs.Laws.{start-inside, line-inside, line_forward, lines_more, lines-last}
 use Rattle.card.specs.declared.line.Line.{Line}
 use Rattle.card.specs.Card.{card_of, line_at}
-use Rattle.card.specs.Inner.{IsLine}
+use Rattle.fields.specs.Least.{least, FirstOf}
+use Rattle.fields.proofs.Least.{least_is}
+use Rattle.card.specs.Inner.{IsLine, FirstLine}
 
 -- the lines from an index on; behind the text's end there are none
 pub lines_from : List ℕ → ℕ → List (List ℕ)
@@ -80,6 +82,14 @@ module _ {text : List ℕ} {i at to : ℕ} (w : Walk text i at) (h : at ≤ leng
         counted = omega (arith, forward, w.counted);
       }
 
--- a line that was found is the line of its own number
-pub own_line : {text : List ℕ} {i : ℕ} {r : Line} → IsLine text i r → IsLine text r.number r
-own_line {text} {i} {r} p = subst (λ (k : ℕ). IsLine text k r) (sym p.number) p
+-- what a search for a line found, where the calls of its test return what `test` is of the line's number
+pub first_line : (test : ℕ → Bool) (text : List ℕ) (Returns : Line → Bool → Type 0) (r : Line) → ((q : Line) (b : Bool) → IsLine text q.number q → Returns q b → b ≡ test q.number)
+    → FirstLine text Returns r → IsLine text (least test (length (card_of text))) r
+first_line test text Returns r same f = subst (λ (k : ℕ). IsLine text k r) (least_is test (λ k b. b ≡ test k) (length (card_of text)) r.number (λ i b h p. rw add-one at p) found) f.its
+  where
+    found : FirstOf (λ k b. b ≡ test k) (length (card_of text)) r.number
+    found = record {
+      within = f.within;
+      before = λ i h z. let q = f.before i h z in rw q.number at (same q.line false q.its q.failed);
+      here = λ h. same r true f.its (f.here h);
+    }

@@ -1,15 +1,13 @@
 -- What a good card is, sentence by sentence. No contract cites it: it is what the laws say that the reader accepts. Definitions only.
-use Rattle.std.specs.Prelude.{◌≡◌, ℕ, ◌+◌, ◌≤◌, true, length, Float}
+use Rattle.std.specs.Prelude.{◌≡◌, ℕ, ◌+◌, ◌≤◌, true, length, Float, None, Result, Ok}
 use Rattle.std.specs.Float.Ieee.{eq}
 use Rattle.floats.specs.Ops.{count}
-use Rattle.decimal.specs.declared.Reading.{Reading}
-use Rattle.decimal.specs.declared.Reading.TheVariants.{Number}
+use Rattle.decimal.specs.declared.NotRead.{NotRead}
 use Rattle.decimal.specs.Reading as decimal
 use Rattle.fields.specs.declared.Kind.{Kind}
 use Rattle.fields.specs.Names.{TYPE, FIELDS}
 use Rattle.fields.specs.Table.{CURTAIN, has_field, count_of}
 use Rattle.fields.specs.Limits.{takes}
-use Rattle.card.specs.declared.mistakes.Fault.TheVariants.{Nothing}
 use Rattle.card.specs.Card.{Line, Card, word, field_in, line_at, line_of, line_for}
 use Rattle.card.specs.Mistakes.{word_fault}
 use Rattle.card.specs.Places.{twelve, placed}
@@ -17,7 +15,7 @@ use Rattle.card.specs.Places.{twelve, placed}
 -- a line that has as many numbers as its field is to have, and nothing is wrong with any
 pub record GoodNumbers (kind : Kind) (line : Line) : Type 0 where
   pub counted : length line ≡ count_of kind (field_in line) + 1
-  pub right : (k : ℕ) → 1 ≤ k → k ≤ count_of kind (field_in line) → word_fault kind (field_in line) k (word line k) ≡ Nothing
+  pub right : (k : ℕ) → 1 ≤ k → k ≤ count_of kind (field_in line) → word_fault kind (field_in line) k (word line k) ≡ None
 
 -- line i names a field, of this kind, that no earlier line has
 pub record GoodLine (kind : Kind) (card : Card) (i : ℕ) : Type 0 where
@@ -35,8 +33,8 @@ pub record GoodCard (kind : Kind) (card : Card) : Type 0 where
 -- ---- what a good card's numbers are
 
 -- a reading is a number that field f takes as its k-th
-pub record Taken (kind : Kind) (f k : ℕ) (r : Reading) (x : Float) : Type 0 where
-  pub reads : r ≡ Number x
+pub record Taken (kind : Kind) (f k : ℕ) (r : Result Float NotRead) (x : Float) : Type 0 where
+  pub reads : r ≡ Ok x
   pub taken : takes kind f k x ≡ true
 
 -- number k of field f reads as a float, which the field takes, and which stands in its place

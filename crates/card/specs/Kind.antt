@@ -1,9 +1,8 @@
 -- A card's kind: its type, and its mode by the maximum gain field that it has. Definitions only.
-use Rattle.std.specs.Prelude.{ℕ, Bool, cond, ◌&&◌, List, eqb}
+use Rattle.std.specs.Prelude.{ℕ, Bool, cond, ◌&&◌, List, eqb, Float, Result, Ok, Err}
 use Rattle.quoted.specs.Quoted.{quoted}
 use Rattle.lines.specs.Alike.{alike}
-use Rattle.decimal.specs.declared.Reading.{Reading}
-use Rattle.decimal.specs.declared.Reading.TheVariants.{Number, TooLarge, NotANumber}
+use Rattle.decimal.specs.declared.NotRead.{NotRead}
 use Rattle.decimal.specs.Reading as decimal
 use Rattle.fields.specs.declared.Kind.{Kind}
 use Rattle.fields.specs.Names.{TYPE, field_of}
@@ -15,10 +14,9 @@ abbrev pub is_curtain : List ℕ → Bool
 is_curtain w = alike (quoted "curtain") w
 
 -- 1 to 9 for these numbers, 0 for another word that isn't one of them
-unfoldable pub numbered_type : Reading → ℕ
-numbered_type (Number x) = type_number x
-numbered_type TooLarge = 0
-numbered_type NotANumber = 0
+unfoldable pub numbered_type : Result Float NotRead → ℕ
+numbered_type (Ok x) = type_number x
+numbered_type (Err e) = 0
 
 unfoldable pub type_of : List ℕ → ℕ
 type_of w = cond (is_curtain w) CURTAIN (numbered_type (decimal.read_of w))

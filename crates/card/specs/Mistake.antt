@@ -1,26 +1,17 @@
--- A mistake, or none. Definitions only.
-use Rattle.std.specs.Prelude.{ℕ, Bool, true, false}
+-- A mistake. Definitions only.
+use Rattle.std.specs.Prelude.{ℕ, Option, Some, None}
 use Rattle.card.specs.declared.mistakes.Fault.{Fault}
-use Rattle.card.specs.declared.mistakes.Fault.TheVariants.{Nothing, Unknown, Twice, Foreign, TooFew, TooMany, NotANumber, TooLarge, Limit, Missing}
 use Rattle.card.specs.declared.mistakes.Mistake.{Mistake}
-
-unfoldable pub is_fault : Fault → Bool
-is_fault Nothing = false
-is_fault Unknown = true
-is_fault (Twice i) = true
-is_fault Foreign = true
-is_fault TooFew = true
-is_fault TooMany = true
-is_fault NotANumber = true
-is_fault TooLarge = true
-is_fault (Limit n) = true
-is_fault Missing = true
 
 abbrev pub mistake : Fault → ℕ → ℕ → ℕ → Mistake
 mistake what line field number = record { what = what; line = line; field = field; number = number }
 
-abbrev pub good : Mistake
-good = mistake Nothing 0 0 0
+-- what is wrong, if anything is, told of a line, a field and one of its numbers
+abbrev pub told : ℕ → ℕ → ℕ → Option Fault → Option Mistake
+told line field number None = None
+told line field number (Some what) = Some (mistake what line field number)
 
-abbrev pub is_mistake : Mistake → Bool
-is_mistake m = is_fault m.what
+-- the first of these that there is
+abbrev pub or_else : Option Mistake → Option Mistake → Option Mistake
+or_else (Some m) n = Some m
+or_else None n = n

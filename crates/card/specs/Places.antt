@@ -1,11 +1,10 @@
 -- The station of a card: each place holds the number that the table of fields says. Definitions only.
-use Rattle.std.specs.Prelude.{ℕ, cond, ◌&&◌, List, eqb, leb, ltb, Float}
+use Rattle.std.specs.Prelude.{ℕ, cond, ◌&&◌, List, eqb, leb, ltb, Float, Result, Ok, Err}
 use Rattle.std.specs.Float.Ieee.{neg}
 use Rattle.floats.specs.Ops.{+0}
 use Rattle.floats.specs.Literals.{literal}
 use Rattle.floats.specs.Filled.{filled_to}
-use Rattle.decimal.specs.declared.Reading.{Reading}
-use Rattle.decimal.specs.declared.Reading.TheVariants.{Number, TooLarge, NotANumber}
+use Rattle.decimal.specs.declared.NotRead.{NotRead}
 use Rattle.decimal.specs.Reading as decimal
 use Rattle.station.specs.declared.Station.{Station}
 use Rattle.station.specs.Record.{station_of}
@@ -15,10 +14,9 @@ use Rattle.card.specs.Card.{Card, word, line_for}
 use Rattle.card.specs.Kind.{is_curtain}
 
 -- the number that a word is, +0 for one that is none
-unfoldable pub read_value : Reading → Float
-read_value (Number x) = x
-read_value TooLarge = +0
-read_value NotANumber = +0
+unfoldable pub read_value : Result Float NotRead → Float
+read_value (Ok x) = x
+read_value (Err e) = +0
 
 -- VOACAP's type for a curtain is 12
 abbrev pub twelve : Float

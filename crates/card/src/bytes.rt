@@ -12,8 +12,8 @@ pub(crate) fn put_bytes(reading: Reading, out: &mut [u8])
     requires { (length out.old ≡ 237) × Writable reading }
     ensures { out.new ≡ bytes_of reading }
 {
-    let s = reading.station;
-    station::write(0, s, &mut out[..225]);
+    // never refused: the station can be written
+    station::write(0, reading.station, &mut out[..225]).unwrap();
     put_word(out, 225, bits_of(reading.mhz));
     put_word(out, 229, bits_of(reading.design));
     put_word(out, 233, bits_of(reading.elevation));

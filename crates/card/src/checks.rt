@@ -3,164 +3,143 @@ ghost use Rattle.std.specs.Prelude.{◌≡◌};
 ghost use Rattle.lines.specs.Words.{words_of};
 ghost use Rattle.card.specs.Card as Card;
 ghost use Rattle.card.specs.Inner.{IsLine};
-ghost use Rattle.card.specs.Mistakes.{word_fault, first_bad, field_fault, mistake_in, first_mistake, type_mistake, is_missing, first_missing, missing_field, card_mistake};
+ghost use Rattle.card.specs.Mistakes.{word_fault, is_bad, first_bad, field_fault, mistake_in, is_wrong, first_mistake, type_mistake, is_missing, first_missing, missing_field, card_mistake};
 
 use crate::kind::is_curtain;
-use crate::line::{Line, Sought, field_in, find, number_count};
-use crate::mistakes::{Fault, Mistake, good, is_fault, is_mistake};
-use decimal::{Reading, read};
+use crate::line::{Line, field_in, find, line_for, number_count, word_at};
+use crate::mistakes::{Fault, Mistake};
+use decimal::{NotRead, read};
 use fields::Kind;
+use fields::first::least;
 use fields::limits::{refusal_of, takes};
 use fields::names::{FIELDS, TYPE};
 use fields::table::{count_of, has_field};
-use lines::{line_end, text_start, word, word_count};
+use lines::word_count;
 
 // What is wrong with a word as number k of field f.
-fn word_fault(kind: Kind, f: usize, k: usize, w: &[u8]) -> Fault
+#[tactic(auto, unfolding(crate::specs::Mistakes::word_fault, crate::specs::Mistakes::read_fault))]
+fn word_fault(kind: Kind, f: usize, k: usize, w: &[u8]) -> Option<Fault>
     ensures { result ≡ word_fault kind f k w.now }
 {
     if (f == TYPE) & is_curtain(w) {
-        return Fault::Nothing;
+        return None;
     }
-    let reading = read(w);
-    match reading {
-        Reading::Number(x) => {
-            if takes(kind, f, k, x) {
-                Fault::Nothing
-            } else {
-                Fault::Limit(refusal_of(f))
-            }
-        }
-        Reading::TooLarge => Fault::TooLarge,
-        Reading::NotANumber => Fault::NotANumber,
+    match read(w) {
+        Ok(x) if takes(kind, f, k, x) => None,
+        Ok(_) => Some(Fault::Limit(refusal_of(f))),
+        Err(NotRead::TooLarge) => Some(Fault::TooLarge),
+        Err(NotRead::NotANumber) => Some(Fault::NotANumber),
     }
 }
 
 // What is wrong with number k of a line about field f.
-fn number_fault(kind: Kind, f: usize, k: usize, line: &[u8]) -> Fault
+fn number_fault(kind: Kind, f: usize, k: usize, line: &[u8]) -> Option<Fault>
     ensures { result ≡ word_fault kind f k (Card.word (words_of line.now) k) }
 {
-    let at = word(line, k);
-    let from = at.from;
-    let to = at.to;
-    word_fault(kind, f, k, &line[from..to])
+    word_fault(kind, f, k, word_at(line, k))
+}
+
+fn is_bad(kind: Kind, line: &[u8], k: usize) -> bool
+    ensures { result ≡ is_bad kind (words_of line.now) k }
+{
+    number_fault(kind, field_in(line), k, line).is_some()
 }
 
 // The first of a line's numbers with something wrong, 0 where there is none.
 fn first_bad(kind: Kind, line: &[u8]) -> usize
     ensures { result ≡ first_bad kind (words_of line.now) }
 {
-    let f = field_in(line);
-    let count = number_count(line);
-    let mut k: usize = 0;
-    while k < count {
-        k += 1;
-        if is_fault(number_fault(kind, f, k, line)) {
-            return k;
-        }
-    }
-    0
+    least(number_count(line), |k| is_bad(kind, line, k))
 }
 
 // What is wrong with a line but for what its numbers are.
-fn field_fault(text: &[u8], kind: Kind, line: Line) -> Fault
+#[tactic(auto, unfolding(crate::specs::Mistakes::field_fault))]
+fn field_fault(text: &[u8], kind: Kind, line: Line) -> Option<Fault>
     requires { IsLine text.now line.number line }
     ensures { result ≡ field_fault kind (Card.card_of text.now) line.number }
 {
-    let from = line.from;
-    let to = line.to;
-    let words = &text[from..to];
+    let words = &text[line.from..line.to];
     let f = field_in(words);
     if f == 0 {
-        return Fault::Unknown;
+        return Some(Fault::Unknown);
     }
-    let first = find(text, Sought::Field(f));
-    let earlier = first.number;
+    let earlier = line_for(text, f).number;
     if earlier < line.number {
-        return Fault::Twice(earlier);
+        return Some(Fault::Twice(earlier));
     }
     if !has_field(kind, f) {
-        return Fault::Foreign;
+        return Some(Fault::Foreign);
     }
     let count = number_count(words);
     let wanted = count_of(kind, f);
     if count < wanted {
-        return Fault::TooFew;
+        return Some(Fault::TooFew);
     }
     if wanted < count {
-        return Fault::TooMany;
+        return Some(Fault::TooMany);
     }
-    Fault::Nothing
+    None
 }
 
 // What is wrong with a line.
-fn mistake_in(text: &[u8], kind: Kind, line: Line) -> Mistake
+#[tactic(auto, unfolding(crate::specs::Mistakes::mistake_in))]
+fn mistake_in(text: &[u8], kind: Kind, line: Line) -> Option<Mistake>
     requires { IsLine text.now line.number line }
     ensures { result ≡ mistake_in kind (Card.card_of text.now) line.number }
 {
-    let from = line.from;
-    let to = line.to;
-    let words = &text[from..to];
+    let words = &text[line.from..line.to];
     if word_count(words) == 0 {
-        return good();
+        return None;
     }
     let f = field_in(words);
-    let what = field_fault(text, kind, line);
-    if is_fault(what) {
-        return Mistake {
+    if let Some(what) = field_fault(text, kind, line) {
+        return Some(Mistake {
             what,
             line: line.number,
             field: f,
             number: 0,
-        };
+        });
     }
     let k = first_bad(kind, words);
     if k == 0 {
-        return good();
+        return None;
     }
-    Mistake {
-        what: number_fault(kind, f, k, words),
+    Some(Mistake {
+        what: number_fault(kind, f, k, words)?,
         line: line.number,
         field: f,
         number: k,
-    }
+    })
+}
+
+fn is_wrong(text: &[u8], kind: Kind, line: Line) -> bool
+    requires { IsLine text.now line.number line }
+    ensures { result ≡ is_wrong kind (Card.card_of text.now) line.number }
+{
+    mistake_in(text, kind, line).is_some()
 }
 
 // The mistake of the first line that has one.
-fn first_mistake(text: &[u8], kind: Kind) -> Mistake
+fn first_mistake(text: &[u8], kind: Kind) -> Option<Mistake>
     ensures { result ≡ first_mistake kind (Card.card_of text.now) }
 {
-    let mut number: usize = 0;
-    let mut at = text_start(text);
-    while at <= text.len() {
-        let to = line_end(text, at);
-        number += 1;
-        let line = Line {
-            number,
-            from: at,
-            to,
-        };
-        let m = mistake_in(text, kind, line);
-        if is_mistake(m) {
-            return m;
-        }
-        at = to + 1;
-    }
-    good()
+    let line = find(text, |line| is_wrong(text, kind, line));
+    mistake_in(text, kind, line)
 }
 
 // The mistake of the first `type` line.
-fn type_mistake(text: &[u8], kind: Kind) -> Mistake
+#[tactic(auto, unfolding(crate::specs::Mistakes::type_mistake))]
+fn type_mistake(text: &[u8], kind: Kind) -> Option<Mistake>
     ensures { result ≡ type_mistake kind (Card.card_of text.now) }
 {
-    let line = find(text, Sought::Field(TYPE));
+    let line = line_for(text, TYPE);
     if line.number == 0 {
-        return Mistake {
+        return Some(Mistake {
             what: Fault::Missing,
             line: 1,
             field: TYPE,
             number: 0,
-        };
+        });
     }
     mistake_in(text, kind, line)
 }
@@ -169,55 +148,39 @@ fn type_mistake(text: &[u8], kind: Kind) -> Mistake
 fn is_missing(text: &[u8], kind: Kind, f: usize) -> bool
     ensures { result ≡ is_missing kind (Card.card_of text.now) f }
 {
-    if !has_field(kind, f) {
-        return false;
-    }
-    let line = find(text, Sought::Field(f));
-    line.number == 0
+    has_field(kind, f) && line_for(text, f).number == 0
 }
 
 // The first such field, 0 where there is none.
 fn first_missing(text: &[u8], kind: Kind) -> usize
     ensures { result ≡ first_missing kind (Card.card_of text.now) }
 {
-    let mut f: usize = 0;
-    while f < FIELDS {
-        f += 1;
-        if is_missing(text, kind, f) {
-            return f;
-        }
-    }
-    0
+    least(FIELDS, |f| is_missing(text, kind, f))
 }
 
 // That mistake, told at the line of `type`.
-fn missing_field(text: &[u8], kind: Kind) -> Mistake
+#[tactic(auto, unfolding(crate::specs::Mistakes::missing_field))]
+fn missing_field(text: &[u8], kind: Kind) -> Option<Mistake>
     ensures { result ≡ missing_field kind (Card.card_of text.now) }
 {
-    let f = first_missing(text, kind);
-    if f == 0 {
-        return good();
+    let field = first_missing(text, kind);
+    if field == 0 {
+        return None;
     }
-    let line = find(text, Sought::Field(TYPE));
-    Mistake {
+    Some(Mistake {
         what: Fault::Missing,
-        line: line.number,
-        field: f,
+        line: line_for(text, TYPE).number,
+        field,
         number: 0,
-    }
+    })
 }
 
 // The first mistake of a card of this kind.
-pub(crate) fn card_mistake(text: &[u8], kind: Kind) -> Mistake
+#[tactic(auto, unfolding(crate::specs::Mistakes::card_mistake))]
+pub(crate) fn card_mistake(text: &[u8], kind: Kind) -> Option<Mistake>
     ensures { result ≡ card_mistake kind (Card.card_of text.now) }
 {
-    let of_type = type_mistake(text, kind);
-    if is_mistake(of_type) {
-        return of_type;
-    }
-    let of_line = first_mistake(text, kind);
-    if is_mistake(of_line) {
-        return of_line;
-    }
-    missing_field(text, kind)
+    type_mistake(text, kind)
+        .or_else(|| first_mistake(text, kind))
+        .or_else(|| missing_field(text, kind))
 }

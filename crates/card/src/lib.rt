@@ -27,49 +27,42 @@ ghost use Rattle.card.specs.Reading as Spec;
 use crate::bytes::put_bytes;
 use crate::checks::card_mistake;
 use crate::kind::kind_in;
-use crate::mistakes::{Mistake, is_mistake};
+use crate::mistakes::Mistake;
 use crate::places::{placed, station_in};
+use answers::Refusal;
 use fields::Kind;
 use station::Station;
-use station::fields::blank;
 
-#[derive(Clone, Copy)]
-pub enum Answer {
-    Accepted,
-    Mistaken(Mistake),
-    Refused(u8),
-}
-
-// The answer; beside it the station with the three numbers after its record, 0 beside a mistake.
+// A card's station, with the three numbers after its record.
 #[derive(Clone, Copy)]
 pub struct Reading {
-    pub answer: Answer,
     pub station: Station,
     pub mhz: f32,
     pub design: f32,
     pub elevation: f32,
 }
 
-fn mistaken(m: Mistake) -> Reading
-    ensures { result ≡ Spec.mistaken m }
-{
-    let station = blank(0);
-    Reading {
-        answer: Answer::Mistaken(m),
-        station,
-        mhz: 0.0,
-        design: 0.0,
-        elevation: 0.0,
+// Why no station is written.
+#[derive(Clone, Copy, Debug, PartialEq, Eq)]
+pub enum NoStation {
+    Mistaken(Mistake),
+    Refused(Refusal),
+}
+
+impl From<Mistake> for NoStation {
+    ghost from_gives = { λ m e. e ≡ Spec.mistaken m };
+
+    fn from(m: Mistake) -> NoStation {
+        NoStation::Mistaken(m)
     }
 }
 
+#[tactic(auto, unfolding(crate::specs::Reading::accepted))]
 fn accepted(text: &[u8], kind: Kind) -> Reading
     ensures { result ≡ Spec.accepted kind (Card.card_of text.now) }
 {
-    let station = station_in(text, kind);
     Reading {
-        answer: Answer::Accepted,
-        station,
+        station: station_in(text, kind),
         mhz: placed(text, kind, 56),
         design: placed(text, kind, 57),
         elevation: placed(text, kind, 58),
@@ -77,33 +70,27 @@ fn accepted(text: &[u8], kind: Kind) -> Reading
 }
 
 // The station that a card says, or its first mistake.
-pub fn read(text: &[u8]) -> Reading
+#[tactic(auto, unfolding(crate::specs::Reading::read_of, crate::specs::Reading::read_card))]
+pub fn read(text: &[u8]) -> Result<Reading, Mistake>
     ensures { result ≡ Spec.read_of text.now }
 {
     let kind = kind_in(text);
-    let m = card_mistake(text, kind);
-    if is_mistake(m) {
-        return mistaken(m);
+    match card_mistake(text, kind) {
+        Some(m) => Err(m),
+        None => Ok(accepted(text, kind)),
     }
-    accepted(text, kind)
 }
 
 // Writes the 237 bytes of the station that a card says over the lent ones. They stay as they were
 // after a mistake, and where they aren't 237.
-pub fn station(text: &[u8], out: &mut [u8]) -> Answer
+#[tactic(auto, unfolding(crate::specs::Reading::written_of))]
+pub fn station(text: &[u8], out: &mut [u8]) -> Result<(), NoStation>
     ensures { (result, out.new) ≡ Spec.written_of text.now out.old }
 {
     if out.len() != 237 {
-        return Answer::Refused(answers::SPACE);
+        return Err(NoStation::Refused(Refusal::Space));
     }
-    let reading = read(text);
-    let answer = reading.answer;
-    match answer {
-        Answer::Accepted => {
-            put_bytes(reading, out);
-            Answer::Accepted
-        }
-        Answer::Mistaken(m) => Answer::Mistaken(m),
-        Answer::Refused(number) => Answer::Refused(number),
-    }
+    let reading = read(text)?;
+    put_bytes(reading, out);
+    Ok(())
 }

@@ -1,6 +1,6 @@
 -- What is proved of a card written back, beside that the code writes it. Assumes nothing.
-use mathlib.Core.Path.{◌≡◌, refl, ap, ◌∙◌}
-use mathlib.Core.Bool.{Bool, true, false, cond, and-eq-true_iff}
+use mathlib.Core.Path.{◌≡◌, refl, ap}
+use mathlib.Core.Bool.{Bool, true, false, cond, false≢true}
 use mathlib.Core.List.{List}
 use Prim.Native.Nat.{ℕ, ◌≤◌}
 use native.Mathlib.Omega.{arith}
@@ -14,21 +14,13 @@ use Rattle.words.proofs.Laid.{laid-length}
 use Rattle.lines.proofs.Laws.{alike_equal}
 use Rattle.station.specs.declared.Station.{Station}
 use Rattle.station.specs.Answers as station
-use Rattle.card.specs.declared.Answer.{Answer}
-use Rattle.card.specs.declared.Answer.TheVariants as card
-use Rattle.card.specs.Reading.{read_of, bytes_of, bytes_after, written_of}
-use Rattle.card_back.specs.declared.Back.{Back}
-use Rattle.card_back.specs.declared.Back.TheVariants.{Written, Refused}
+use Rattle.std.specs.Prelude.{Result, Ok, Err}
+use Rattle.card.specs.declared.Reading.{Reading}
+use Rattle.card.specs.declared.mistakes.Mistake.{Mistake}
+use Rattle.card.specs.Reading.{read_of, bytes_of, written, written_of}
 use Rattle.card_back.specs.Text.{kind_of, place_in, text_of}
-use Rattle.card_back.specs.Back.{is_accepted, reads, read_back, finite_end, station_card, record_card, card_of, delivered_to, back_of}
+use Rattle.card_back.specs.Back.{makes, reads, read_back, finite_end, station_card, record_card, card_of, delivered_to, back_of}
 use Rattle.card_back.proofs.Lengths.{card_length}
-use Rattle.card_back.proofs.Steps.{accepted-bytes}
-
-accepted-only : (r : Answer) → is_accepted r ≡ true → r ≡ card.Accepted
-unfolding is_accepted
-accepted-only card.Accepted e = refl
-accepted-only (card.Mistaken m) e = let z : ◌≡◌ {A = ℕ} 0 1 = cc in absurd (omega arith)
-accepted-only (card.Refused n) e = let z : ◌≡◌ {A = ℕ} 0 1 = cc in absurd (omega arith)
 
 -- ---- what is accepted passed every test
 
@@ -53,48 +45,48 @@ module _ (bytes text : List ℕ) where
       let same = same_text read.1 in
       record { station = s; its_text = same; back = rw same at read.0 }
 
-  of_record : (a : station.Answer Station) → record_card a bytes ≡ accepted text → IsCard bytes text
+  of_record : (a : Outcome Station) → record_card a bytes ≡ accepted text → IsCard bytes text
   unfolding record_card
-  of_record (station.refused n left) e = let z : ◌≡◌ {A = ℕ} 0 1 = cc in absurd (omega arith)
-  of_record (station.accepted s) e = of_station s e
+  of_record (refused n) e = let z : ◌≡◌ {A = ℕ} 0 1 = cc in absurd (omega arith)
+  of_record (accepted s) e = of_station s e
 
   pub card_only : card_of bytes ≡ accepted text → IsCard bytes text
   unfolding card_of
   card_only e = of_record (station.read_of (take 225 bytes)) (chosen (eqb (length bytes) 237) _ e).1
 
 -- ---- a card that is written reads to the bytes that it was written from, over any 237 bytes that are lent
-pub written-reads : (bytes text : List ℕ) → card_of bytes ≡ accepted text → (lent : List ℕ) → length lent ≡ 237 → written_of text lent ≡ (card.Accepted, bytes)
+pub written-reads : (bytes text : List ℕ) → card_of bytes ≡ accepted text → (lent : List ℕ) → length lent ≡ 237 → written_of text lent ≡ (Ok tt, bytes)
 unfolding reads written_of
-written-reads bytes text e lent len =
-    let r = (and-eq-true_iff (is_accepted (read_of text).answer) _).0 (card_only bytes text e).back in
-    let a = accepted-only (read_of text).answer r.0 in
-    let l : bytes_after (read_of text) lent ≡ bytes = accepted-bytes (read_of text) lent a ∙ alike_equal (bytes_of (read_of text)) bytes r.1 in
-    rw (eq-eqb (length lent) 237 len) (ap (λ (o : Answer). (o, bytes_after (read_of text) lent)) a ∙ ap (λ (m : List ℕ). (card.Accepted, m)) l)
+written-reads bytes text e lent len = rw (eq-eqb (length lent) 237 len) (go (read_of text) (card_only bytes text e).back)
+  where
+    go : (r : Result Reading Mistake) → makes r bytes ≡ true → written r lent ≡ (Ok tt, bytes)
+    go (Ok r) h = ap (λ (l : List ℕ). (Ok tt, l)) (alike_equal (bytes_of r) bytes h)
+    go (Err m) h = absurd (false≢true h)
 
 -- ---- a card has 6,228 bytes at most, so what is written lies in the lent bytes
 pub card_short : (bytes text : List ℕ) → card_of bytes ≡ accepted text → length text ≤ 6228
 card_short bytes text e = let c = card_only bytes text e in rw (← c.its_text) (card_length (kind_of c.station) (place_in c.station bytes))
 
-pub written-within : (bytes lent left : List ℕ) (n : ℕ) → ◌≡◌ {A = Back × List ℕ} (Written n, left) (back_of bytes lent) → n ≤ length left
+pub written-within : (bytes lent left : List ℕ) (n : ℕ) → ◌≡◌ {A = Outcome ℕ × List ℕ} (accepted n, left) (back_of bytes lent) → n ≤ length left
 unfolding back_of delivered_to
 written-within bytes lent left n e = go (card_of bytes) refl e
   where
-    never : (m : ℕ) → ◌≡◌ {A = Back × List ℕ} (Written n, left) (Refused m, lent) → ⊥
+    never : (m : ℕ) → ◌≡◌ {A = Outcome ℕ × List ℕ} (accepted n, left) (refused m, lent) → ⊥
     never m q =
-        let answered : Written n ≡ Refused m = ap (λ (p : Back × List ℕ). p.0) q in
+        let answered : accepted n ≡ refused m = ap (λ (p : Outcome ℕ × List ℕ). p.0) q in
         let z : ◌≡◌ {A = ℕ} 0 1 = cc in
         omega arith
 
     in_room_lem : (b : Bool) (text : List ℕ) → ltb (length lent) 8192 ≡ b → length text ≤ 6228
-        → ◌≡◌ {A = Back × List ℕ} (Written n, left) (cond b (Refused SPACE, lent) (Written (length text), laid lent 0 text)) → n ≤ length left
+        → ◌≡◌ {A = Outcome ℕ × List ℕ} (accepted n, left) (cond b (refused SPACE, lent) (accepted (length text), laid lent 0 text)) → n ≤ length left
     in_room_lem true text t h q = absurd (never SPACE q)
     in_room_lem false text t h q =
         let room = ltb-false (length lent) 8192 t in
-        let answered : Written n ≡ Written (length text) = ap (λ (p : Back × List ℕ). p.0) q in
+        let answered : accepted n ≡ accepted (length text) = ap (λ (p : Outcome ℕ × List ℕ). p.0) q in
         let same : n ≡ length text = cc in
-        let l : left ≡ laid lent 0 text = ap (λ (p : Back × List ℕ). p.1) q in
+        let l : left ≡ laid lent 0 text = ap (λ (p : Outcome ℕ × List ℕ). p.1) q in
         rw (l, laid-length lent 0 text (omega arith)) (omega arith)
 
-    go : (o : Outcome (List ℕ)) → card_of bytes ≡ o → ◌≡◌ {A = Back × List ℕ} (Written n, left) (delivered_to lent o) → n ≤ length left
+    go : (o : Outcome (List ℕ)) → card_of bytes ≡ o → ◌≡◌ {A = Outcome ℕ × List ℕ} (accepted n, left) (delivered_to lent o) → n ≤ length left
     go (refused m) p q = absurd (never m q)
     go (accepted text) p q = in_room_lem (ltb (length lent) 8192) text refl (card_short bytes text p) q

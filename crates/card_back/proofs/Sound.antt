@@ -14,7 +14,8 @@ use Rattle.words.proofs.Digits.{length_digits}
 use Rattle.station.specs.declared.Station.{Station}
 use Rattle.station.specs.Header.{width_of}
 use Rattle.station.specs.Record.{words_in, floats_in, floats_of, edition_in, mode_in}
-use Rattle.station.specs.Answers.{accepted, read_of}
+use Rattle.answers.specs.Outcome.{accepted}
+use Rattle.station.specs.Answers.{read_of}
 use Rattle.station.proofs.Arrays.{floats-back}
 use Rattle.station.proofs.Finite.{finite-none}
 use Rattle.station.proofs.RoundTrip.{accepted-read}

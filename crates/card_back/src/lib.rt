@@ -8,39 +8,32 @@
 mod text;
 
 ghost use Rattle.std.specs.Prelude.{◌≡◌, length};
+ghost use Rattle.answers.specs.Outcome.{outcome};
 ghost use Rattle.card_back.specs.Back.{reads, finite_end, read_back, delivered_to, back_of};
 ghost use Rattle.card_back.specs.Inner.{Sound};
 ghost use Rattle.card_back.specs.Text.{kind_of, place_in, text_of};
 
 use crate::text::{kind_of, push_text};
-use card::Answer;
+use answers::Refusal;
 use lines::same;
 use numeric::float::is_finite;
-use station::{Station, Verdict};
+use station::Station;
 use words::big_endian::float_at;
 use words::bytes::push_bytes;
-
-// The card's length, or the number of the refusal.
-#[derive(Clone, Copy)]
-pub enum Back {
-    Written(usize),
-    Refused(u8),
-}
 
 // Whether the reader makes these bytes of a text.
 fn reads(text: &[u8], bytes: &[u8]) -> bool
     ensures { result ≡ reads text.now bytes.now }
 {
     let mut made = [0u8; 237];
-    let answer = card::station(text, &mut made);
-    match answer {
-        Answer::Accepted => same(&made, bytes),
-        Answer::Mistaken(_) => false,
-        Answer::Refused(_) => false,
+    match card::station(text, &mut made) {
+        Ok(()) => same(&made, bytes),
+        Err(_) => false,
     }
 }
 
 // Whether the three floats behind the record are finite.
+#[tactic(auto, unfolding(crate::specs::Back::finite_end))]
 fn finite_end(bytes: &[u8]) -> bool
     requires { length bytes.now ≡ 237 }
     ensures { result ≡ finite_end bytes.now }
@@ -51,40 +44,36 @@ fn finite_end(bytes: &[u8]) -> bool
 }
 
 // Writes the card of a station's bytes with this record, if it reads back.
-fn write_card(s: Station, bytes: &[u8], out: &mut [u8]) -> Back
+fn write_card(s: Station, bytes: &[u8], out: &mut [u8]) -> Result<usize, Refusal>
     requires { Sound s bytes.now }
-    ensures { (result, out.new) ≡ delivered_to out.old (read_back (text_of (kind_of s) (place_in s bytes.now)) bytes.now) }
+    ensures { (outcome result, out.new) ≡ delivered_to out.old (read_back (text_of (kind_of s) (place_in s bytes.now)) bytes.now) }
 {
     let mut text = [0u8; 8192];
     let n = push_text(&mut text, kind_of(s), s, bytes);
     if !reads(&text[..n], bytes) {
-        return Back::Refused(answers::RECORD);
+        return Err(Refusal::Record);
     }
     if out.len() < 8192 {
-        return Back::Refused(answers::SPACE);
+        return Err(Refusal::Space);
     }
     push_bytes(out, 0, &text[..n]);
-    Back::Written(n)
+    Ok(n)
 }
 
-// Writes the card of a station's 237 bytes over the first of the lent ones. Refused under 1 where there
-// is none, under 8 where fewer than 8,192 bytes are lent; a refusal leaves them as they were.
-pub fn card_of(station: &[u8], out: &mut [u8]) -> Back
-    ensures { (result, out.new) ≡ back_of station.now out.old }
+// Writes the card of a station's 237 bytes over the first of the lent ones, and answers its length.
+// Refused under 1 where there is none, under 8 where fewer than 8,192 bytes are lent; a refusal leaves
+// them as they were.
+pub fn card_of(station: &[u8], out: &mut [u8]) -> Result<usize, Refusal>
+    ensures { (outcome result, out.new) ≡ back_of station.now out.old }
 {
     if station.len() != 237 {
-        return Back::Refused(answers::RECORD);
+        return Err(Refusal::Record);
     }
-    let reading = station::read(&station[..225]);
-    let verdict = reading.verdict;
-    let record = reading.station;
-    match verdict {
-        Verdict::Refused(_) => Back::Refused(answers::RECORD),
-        Verdict::Accepted => {
-            if !finite_end(station) {
-                return Back::Refused(answers::RECORD);
-            }
-            write_card(record, station, out)
-        }
+    let Ok(record) = station::read(&station[..225]) else {
+        return Err(Refusal::Record);
+    };
+    if !finite_end(station) {
+        return Err(Refusal::Record);
     }
+    write_card(record, station, out)
 }

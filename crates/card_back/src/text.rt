@@ -17,30 +17,28 @@ use words::big_endian;
 use words::bytes::{push, push_bytes};
 
 // The kind of a station.
+#[tactic(auto, unfolding(crate::specs::Text::kind_of))]
 pub(crate) fn kind_of(s: Station) -> Kind
     ensures { result ≡ kind_of s }
 {
-    if s.mode == 3 {
-        return Kind {
-            iant: CURTAIN,
-            mode: s.mode,
-        };
-    }
-    Kind {
-        iant: type_number(s.parm[1]),
-        mode: s.mode,
-    }
+    let iant = match s.mode {
+        3 => CURTAIN,
+        _ => type_number(s.parm[1]),
+    };
+    Kind { iant, mode: s.mode }
 }
 
 // Place p of a station's bytes with this record.
+#[tactic(auto, unfolding(crate::specs::Text::place_in))]
 pub(crate) fn place_of(s: Station, bytes: &[u8], p: usize) -> f32
     requires { (length bytes.now ≡ 237) × (p < 59) }
     ensures { result ≡ place_in s bytes.now p }
 {
     if p < 56 {
-        return float_at(s, p);
+        float_at(s, p)
+    } else {
+        big_endian::float_at(bytes, 225 + 4 * (p - 56))
     }
-    big_endian::float_at(bytes, 225 + 4 * (p - 56))
 }
 
 // A blank, and a field's number.
@@ -63,25 +61,20 @@ fn push_numbers(out: &mut [u8], at: usize, kind: Kind, s: Station, bytes: &[u8],
     let first = first_place(kind, f);
     let count = count_of(kind, f);
     let mut end = at;
-    let mut k: usize = 0;
-    while k < count {
+    for k in 0..count {
         let x = place_of(s, bytes, first + k);
         end = push_word(out, end, kind, f, x);
-        k += 1;
     }
     end
 }
 
+#[tactic(auto, unfolding(words::specs::Laid::laid))]
 fn push_blanks(out: &mut [u8], at: usize, n: usize) -> usize
     requires { at + n ≤ length out.old }
     ensures { Wrote out.old at (replicate n 32) out.new result }
 {
-    let mut end = at;
-    let mut i: usize = 0;
-    while i < n {
-        end = push(out, end, b' ');
-        i += 1;
-    }
+    let end = at + n;
+    out[at..end].fill(b' ');
     end
 }
 
@@ -105,6 +98,7 @@ fn push_line(out: &mut [u8], at: usize, kind: Kind, s: Station, bytes: &[u8], f:
 }
 
 // The field's line, if the kind has it.
+#[tactic(auto, using(words::proofs::Writing::wrote_none), unfolding(crate::specs::Text::field_text))]
 fn push_field(out: &mut [u8], at: usize, kind: Kind, s: Station, bytes: &[u8], f: usize) -> usize
     requires { (at + 12 + 87 * count_of kind f ≤ length out.old) × Sound s bytes.now }
     ensures { Wrote out.old at (field_text kind (place_in s bytes.now) f) out.new result }
@@ -123,10 +117,8 @@ pub(crate) fn push_text(out: &mut [u8], kind: Kind, s: Station, bytes: &[u8]) ->
     ensures within { (result ≤ length out.new) × (result ≡ length (take result out.new)) }
 {
     let mut end: usize = 0;
-    let mut i: usize = 0;
-    while i < FIELDS {
+    for i in 0..FIELDS {
         end = push_field(out, end, kind, s, bytes, i + 1);
-        i += 1;
     }
     end
 }

@@ -1,9 +1,11 @@
 // What is said of a field, after its name.
 ghost use Rattle.std.specs.Prelude.{◌+◌, ◌≤◌, length};
+ghost use Rattle.answers.specs.Outcome as Outcome;
 ghost use Rattle.card_words.specs.Pushed.{Pushed};
 ghost use Rattle.card_faults.specs.Faults.{twice, foreign, second_gain, too_few, too_many, not_a_number, too_large, limit, missing, remark};
 
-use crate::limits::{push_broken, push_refused};
+use crate::limits::{broken, refused_text};
+use answers::Refusal;
 use card_words::pieces::{push_counted, push_field, push_number, push_said, push_shown};
 use fields::CURTAIN;
 use fields::names::GAIN;
@@ -20,6 +22,7 @@ pub fn push_twice(out: &mut [u8], at: usize, earlier: usize) -> usize
 
 // Another type's field, on a card of this type.
 // Inner step: a sentence's buffer has room for it.
+#[tactic(auto, using(card_words::proofs::Pushing::within, card_words::proofs::Pushing::all), unfolding(crate::specs::Faults::foreign, quoted::specs::Quoted::quoted))]
 pub fn push_foreign(out: &mut [u8], at: usize, iant: usize) -> usize
     requires { at + 128 ≤ length out.old }
     ensures { Pushed 128 out.old at (foreign iant) out.new result }
@@ -66,6 +69,7 @@ pub fn push_too_many(out: &mut [u8], at: usize, n: usize, m: usize) -> usize
 }
 
 // Inner step: a sentence's buffer has room for it.
+#[tactic(auto, using(card_words::proofs::Pushing::within), unfolding(crate::specs::Faults::not_a_number, quoted::specs::Quoted::quoted))]
 pub fn push_not_a_number(out: &mut [u8], at: usize, word: &[u8]) -> usize
     requires { at + 128 ≤ length out.old }
     ensures { Pushed 128 out.old at (not_a_number word.now) out.new result }
@@ -74,6 +78,7 @@ pub fn push_not_a_number(out: &mut [u8], at: usize, word: &[u8]) -> usize
 }
 
 // Inner step: a sentence's buffer has room for it.
+#[tactic(auto, using(card_words::proofs::Pushing::within), unfolding(crate::specs::Faults::too_large, quoted::specs::Quoted::quoted))]
 pub fn push_too_large(out: &mut [u8], at: usize, word: &[u8]) -> usize
     requires { at + 128 ≤ length out.old }
     ensures { Pushed 128 out.old at (too_large word.now) out.new result }
@@ -90,18 +95,19 @@ pub fn push_limit(
     f: usize,
     number: usize,
     x: f32,
-    refusal: u8,
+    refusal: Refusal,
 ) -> usize
     requires { at + 128 ≤ length out.old }
-    ensures { Pushed 128 out.old at (limit word.now f number x refusal) out.new result }
+    ensures { Pushed 128 out.old at (limit word.now f number x (Outcome.number refusal)) out.new result }
 {
     let word_at = push_bytes(out, at, b": ");
     let broken_at = push_shown(out, word_at, word);
-    let refusal_at = push_broken(out, broken_at, f, number, x);
-    push_refused(out, refusal_at, refusal)
+    let refusal_at = push_bytes(out, broken_at, broken(f, number, x));
+    push_bytes(out, refusal_at, refused_text(refusal))
 }
 
 // Inner step: a sentence's buffer has room for it.
+#[tactic(auto, using(card_words::proofs::Pushing::within, card_words::proofs::Pushing::all), unfolding(crate::specs::Faults::missing, quoted::specs::Quoted::quoted))]
 pub fn push_missing(out: &mut [u8], at: usize, f: usize) -> usize
     requires { at + 128 ≤ length out.old }
     ensures { Pushed 128 out.old at (missing f) out.new result }
@@ -114,6 +120,7 @@ pub fn push_missing(out: &mut [u8], at: usize, f: usize) -> usize
 
 // No mistake: a frequency that document 01 takes as another.
 // Inner step: a sentence's buffer has room for it.
+#[tactic(auto, using(card_words::proofs::Pushing::within), unfolding(crate::specs::Faults::remark, quoted::specs::Quoted::quoted))]
 pub fn push_remark(out: &mut [u8], at: usize, word: &[u8]) -> usize
     requires { at + 128 ≤ length out.old }
     ensures { Pushed 128 out.old at (remark word.now) out.new result }

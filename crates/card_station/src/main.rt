@@ -4,8 +4,6 @@
 // output (`card::station`), or nothing. The sentence of the card's mistake, or of a remark on it, goes to
 // standard error (`card_text::sentence`). No contract can say what is read or written, so `tests/card`
 // tries that.
-use card::Answer;
-use card_text::Written;
 use standard_input::{read_full, skip_rest};
 use std::io;
 use std::io::Write;
@@ -25,21 +23,18 @@ fn say_first<W: Write>(to: &mut W, bytes: &[u8], n: usize) -> io::Result<()> {
 // The sentence on a card, if there is one.
 fn tell<W: Write>(to: &mut W, text: &[u8]) -> io::Result<()> {
     let mut line = [0u8; 256];
-    let written = card_text::sentence(text, &mut line);
-    match written {
-        Written::Refused(_) => Ok(()),
-        Written::Length(n) => say_first(to, &line, n),
+    match card_text::sentence(text, &mut line) {
+        Ok(n) => say_first(to, &line, n),
+        Err(_) => Ok(()),
     }
 }
 
 // The station of a card without a mistake.
 fn write_station<W: Write>(to: &mut W, text: &[u8]) -> io::Result<()> {
     let mut bytes = [0u8; 237];
-    let answer = card::station(text, &mut bytes);
-    match answer {
-        Answer::Mistaken(_) => Ok(()),
-        Answer::Refused(_) => Ok(()),
-        Answer::Accepted => to.write_all(&bytes),
+    match card::station(text, &mut bytes) {
+        Ok(()) => to.write_all(&bytes),
+        Err(_) => Ok(()),
     }
 }
 

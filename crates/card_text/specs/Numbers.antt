@@ -1,8 +1,9 @@
 -- A mistake as numbers, for callers that keep its sentence in words of their own. Definitions only.
 use Rattle.std.specs.Prelude.{ℕ, cond, List, [], ◌∷◌}
+use Rattle.answers.specs.Outcome.{number}
 use Rattle.fields.specs.declared.Kind.{Kind}
 use Rattle.card.specs.declared.mistakes.Fault.{Fault}
-use Rattle.card.specs.declared.mistakes.Fault.TheVariants.{Nothing, Unknown, Twice, Foreign, TooFew, TooMany, NotANumber, TooLarge, Limit, Missing}
+use Rattle.card.specs.declared.mistakes.Fault.TheVariants.{Unknown, Twice, Foreign, TooFew, TooMany, NotANumber, TooLarge, Limit, Missing}
 use Rattle.card.specs.declared.mistakes.Mistake.{Mistake}
 use Rattle.card.specs.Card.{Card, line_of}
 use Rattle.card_text.specs.declared.numbers.What.{What}
@@ -14,7 +15,6 @@ what_is number earlier refusal = record { number = number; earlier = earlier; re
 
 -- a fault's number, the earlier line that it names and the refusal that it breaks, 0 where it has none; `earlier` is the line of the card's own maximum gain
 unfoldable pub what_of : Kind → ℕ → ℕ → Fault → What
-what_of kind earlier f Nothing = what_is 0 0 0
 what_of kind earlier f Unknown = what_is 1 0 0
 what_of kind earlier f (Twice i) = what_is 2 i 0
 what_of kind earlier f Foreign = cond (is_second kind f) (what_is 4 earlier 0) (what_is 3 0 0)
@@ -22,7 +22,7 @@ what_of kind earlier f TooFew = what_is 5 0 0
 what_of kind earlier f TooMany = what_is 6 0 0
 what_of kind earlier f NotANumber = what_is 7 0 0
 what_of kind earlier f TooLarge = what_is 8 0 0
-what_of kind earlier f (Limit refusal) = what_is 9 0 refusal
+what_of kind earlier f (Limit refusal) = what_is 9 0 (number refusal)
 what_of kind earlier f Missing = what_is 10 0 0
 
 -- what, line, field, number, earlier line, refusal

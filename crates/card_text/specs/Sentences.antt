@@ -1,5 +1,6 @@
 -- The sentence of a card: of its first mistake, or of a remark. Definitions only.
-use Rattle.std.specs.Prelude.{ℕ, ◌-◌, Bool, not, cond, ◌&&◌, ◌||◌, List, [], ◌∷◌, ◌++◌, eqb, ltb, Float, length}
+use Rattle.std.specs.Prelude.{ℕ, ◌-◌, Bool, not, cond, ◌&&◌, ◌||◌, List, [], ◌∷◌, ◌++◌, eqb, ltb, Float, length, Result, Ok, Err}
+use Rattle.answers.specs.Outcome.{Outcome, refused, accepted, number}
 use Rattle.answers.specs.Refusals.{SPACE}
 use Rattle.words.specs.Laid.{laid}
 use Rattle.floats.specs.Literals.{two, thirty}
@@ -10,17 +11,13 @@ use Rattle.fields.specs.declared.Kind.{Kind}
 use Rattle.fields.specs.Names.{GAIN, GAIN_RATIO, GAIN_MHZ, MHZ, name_of}
 use Rattle.fields.specs.Table.{is_maximum_gain, mode_of, has_field, count_of}
 use Rattle.card.specs.declared.mistakes.Fault.{Fault}
-use Rattle.card.specs.declared.mistakes.Fault.TheVariants.{Nothing, Unknown, Twice, Foreign, TooFew, TooMany, NotANumber, TooLarge, Limit, Missing}
+use Rattle.card.specs.declared.mistakes.Fault.TheVariants.{Unknown, Twice, Foreign, TooFew, TooMany, NotANumber, TooLarge, Limit, Missing}
 use Rattle.card.specs.declared.mistakes.Mistake.{Mistake}
-use Rattle.card.specs.declared.Answer.{Answer}
-use Rattle.card.specs.declared.Answer.TheVariants.{Accepted, Mistaken, Refused}
 use Rattle.card.specs.declared.Reading.{Reading}
 use Rattle.card.specs.Card.{Card, Line, card_of, line_at, word, line_of, line_for}
 use Rattle.card.specs.Kind.{kind_in}
 use Rattle.card.specs.Places.{read_value}
 use Rattle.card.specs.Reading.{read_of}
-use Rattle.card_text.specs.declared.Written.{Written}
-use Rattle.card_text.specs.declared.Written.TheVariants as written
 use Rattle.card_words.specs.Pieces.{shown, told}
 use Rattle.card_faults.specs.Faults.{twice, foreign, second_gain, too_few, too_many, not_a_number, too_large, limit, missing, remark}
 
@@ -42,7 +39,6 @@ not_had kind earlier f = cond (is_second kind f) (second_gain earlier (gain_fiel
 
 -- what is said of field f in a line; k is the number that it is about
 unfoldable pub said_of : Kind → ℕ → Fault → Line → ℕ → ℕ → List ℕ
-said_of kind earlier Nothing line f k = []
 said_of kind earlier Unknown line f k = quoted ": there is no such field"
 said_of kind earlier (Twice i) line f k = twice i
 said_of kind earlier Foreign line f k = not_had kind earlier f
@@ -50,7 +46,7 @@ said_of kind earlier TooFew line f k = too_few (length line - 1) (count_of kind 
 said_of kind earlier TooMany line f k = too_many (length line - 1) (count_of kind f)
 said_of kind earlier NotANumber line f k = not_a_number (word line k)
 said_of kind earlier TooLarge line f k = too_large (word line k)
-said_of kind earlier (Limit refusal) line f k = limit (word line k) f k (read_value (decimal.read_of (word line k))) refusal
+said_of kind earlier (Limit refusal) line f k = limit (word line k) f k (read_value (decimal.read_of (word line k))) (number refusal)
 said_of kind earlier Missing line f k = missing f
 
 -- a field's name; where there is no such field, the word that stands there
@@ -76,19 +72,18 @@ remark_text card mode mhz =
 
 -- ---- the sentence: nothing for a good card without a remark
 
-unfoldable pub spoken : Reading → Card → Answer → List ℕ
-spoken r card (Mistaken m) = mistake_text (kind_in card) card m
-spoken r card Accepted = remark_text card r.station.mode r.mhz
-spoken r card (Refused n) = []
+unfoldable pub spoken : Card → Result Reading Mistake → List ℕ
+spoken card (Err m) = mistake_text (kind_in card) card m
+spoken card (Ok r) = remark_text card r.station.mode r.mhz
 
 unfoldable pub sentence_of : List ℕ → List ℕ
-sentence_of text = let r = read_of text in spoken r (card_of text) r.answer
+sentence_of text = spoken (card_of text) (read_of text)
 
--- the answer and the lent bytes afterwards
-unfoldable pub sentence_in : List ℕ → List ℕ → Written × List ℕ
+-- the sentence's length and the lent bytes afterwards
+unfoldable pub sentence_in : List ℕ → List ℕ → Outcome ℕ × List ℕ
 sentence_in text lent =
     let s = sentence_of text in
-    cond (ltb (length lent) 256) (written.Refused SPACE, lent) (written.Length (length s), laid lent 0 s)
+    cond (ltb (length lent) 256) (refused SPACE, lent) (accepted (length s), laid lent 0 s)
 
 -- what a program prints: the sentence and a line feed, if there is one; nothing into a buffer of under 256 bytes
 unfoldable pub line_in : ℕ → List ℕ → List ℕ

@@ -8,45 +8,39 @@ pub mod numbers;
 mod sentences;
 
 ghost use Rattle.std.specs.Prelude.{◌≡◌, ◌≤◌, length, take};
+ghost use Rattle.answers.specs.Outcome.{outcome};
 ghost use Rattle.words.specs.Writing.{Wrote};
 ghost use Rattle.card_words.specs.Pushed.{Pushed};
 ghost use Rattle.card_text.specs.Sentences.{sentence_of, sentence_in, line_in};
 
 use crate::sentences::{push_mistake, push_remarked};
+use answers::Refusal;
 use card::kind::kind_in;
-use card::{Answer, read};
+use card::read;
 use words::bytes::push;
 
-// The length of the sentence that was written, 0 for a good card without a remark; or the number of
-// the refusal.
-#[derive(Clone, Copy)]
-pub enum Written {
-    Length(usize),
-    Refused(u8),
-}
-
 // The sentence from the buffer's start on.
+#[tactic(auto, unfolding(crate::specs::Sentences::sentence_of, crate::specs::Sentences::spoken))]
 fn push_sentence(text: &[u8], out: &mut [u8]) -> usize
     requires { 256 ≤ length out.old }
     ensures { Pushed 182 out.old 0 (sentence_of text.now) out.new result }
 {
-    let reading = read(text);
-    let answer = reading.answer;
-    match answer {
-        Answer::Accepted => push_remarked(out, text, reading.station.mode, reading.mhz),
-        Answer::Mistaken(m) => push_mistake(out, text, kind_in(text), m),
-        Answer::Refused(_) => 0,
+    match read(text) {
+        Ok(r) => push_remarked(out, text, r.station.mode, r.mhz),
+        Err(m) => push_mistake(out, text, kind_in(text), m),
     }
 }
 
-// Writes the sentence of a card over the first of the lent bytes; 8 where they are under 256.
-pub fn sentence(text: &[u8], out: &mut [u8]) -> Written
-    ensures { (result, out.new) ≡ sentence_in text.now out.old }
+// Writes the sentence of a card over the first of the lent bytes, and answers its length: 0 for a good
+// card without a remark. Refused under 8 where they are under 256.
+#[tactic(auto, unfolding(crate::specs::Sentences::sentence_in))]
+pub fn sentence(text: &[u8], out: &mut [u8]) -> Result<usize, Refusal>
+    ensures { (outcome result, out.new) ≡ sentence_in text.now out.old }
 {
     if out.len() < 256 {
-        return Written::Refused(answers::SPACE);
+        return Err(Refusal::Space);
     }
-    Written::Length(push_sentence(text, out))
+    Ok(push_sentence(text, out))
 }
 
 // The sentence and a line feed, for a program: nothing for a good card without a remark, and nothing

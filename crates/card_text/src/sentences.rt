@@ -1,8 +1,6 @@
 // The sentence of a mistake, piece by piece.
 ghost use Rattle.std.specs.Prelude.{◌≡◌, ◌+◌, ◌≤◌, length};
-ghost use Rattle.decimal.specs.Reading as decimal;
 ghost use Rattle.card.specs.Card as Card;
-ghost use Rattle.card.specs.Places.{read_value};
 ghost use Rattle.card_words.specs.Pushed.{Pushed};
 ghost use Rattle.card_text.specs.Sentences.{is_second, gain_field, not_had, said_of, subject, mistake_text, is_remarked, remark_text};
 
@@ -14,7 +12,7 @@ use card_faults::faults::{
 };
 use card_places::places::{numbers_in, word_at};
 use card_words::pieces::{push_field, push_number, push_shown};
-use decimal::{Reading, read};
+use decimal::read;
 use fields::Kind;
 use fields::names::{GAIN, GAIN_MHZ, GAIN_RATIO, MHZ};
 use fields::table::{count_of, has_field, is_maximum_gain, mode_of};
@@ -22,43 +20,43 @@ use floats::range::is_between;
 use words::bytes::push_bytes;
 
 // A field's name; where there is no such field, the first word of the line of this number.
+#[tactic(auto, using(card_words::proofs::Pushing::within), unfolding(crate::specs::Sentences::subject))]
 fn push_subject(out: &mut [u8], at: usize, text: &[u8], line: usize, f: usize) -> usize
     requires { at + 42 ≤ length out.old }
     ensures { Pushed 42 out.old at (subject (Card.line_at (Card.card_of text.now) line) f) out.new result }
 {
     if f == 0 {
-        let word = word_at(text, line, 0);
-        return push_shown(out, at, word);
+        return push_shown(out, at, word_at(text, line, 0));
     }
     push_field(out, at, f)
 }
 
 // Whether the type has a maximum gain in another mode.
+#[tactic(auto, unfolding(crate::specs::Sentences::is_second))]
 pub(crate) fn is_second(kind: Kind, f: usize) -> bool
     ensures { result ≡ is_second kind f }
 {
     let other = Kind {
-        iant: kind.iant,
         mode: mode_of(f),
+        ..kind
     };
-    let has = has_field(other, f);
-    is_maximum_gain(f) & has
+    is_maximum_gain(f) && has_field(other, f)
 }
 
 // The maximum gain field of a mode.
+#[tactic(auto, unfolding(crate::specs::Sentences::gain_field))]
 pub(crate) fn gain_field(mode: u8) -> usize
     ensures { result ≡ gain_field mode }
 {
-    if mode == 1 {
-        return GAIN_RATIO;
+    match mode {
+        1 => GAIN_RATIO,
+        2 => GAIN_MHZ,
+        _ => GAIN,
     }
-    if mode == 2 {
-        return GAIN_MHZ;
-    }
-    GAIN
 }
 
 // A field that the kind doesn't have; `earlier` is the line of the card's own maximum gain.
+#[tactic(auto, unfolding(crate::specs::Sentences::not_had))]
 fn push_not_had(out: &mut [u8], at: usize, kind: Kind, earlier: usize, f: usize) -> usize
     requires { at + 128 ≤ length out.old }
     ensures { Pushed 128 out.old at (not_had kind earlier f) out.new result }
@@ -69,19 +67,8 @@ fn push_not_had(out: &mut [u8], at: usize, kind: Kind, earlier: usize, f: usize)
     push_foreign(out, at, kind.iant)
 }
 
-// The number that a word is, 0 for one that is none.
-fn value_of(word: &[u8]) -> f32
-    ensures { result ≡ read_value (decimal.read_of word.now) }
-{
-    let reading = read(word);
-    match reading {
-        Reading::Number(x) => x,
-        Reading::TooLarge => 0.0,
-        Reading::NotANumber => 0.0,
-    }
-}
-
 // What is said of a field, after its name.
+#[tactic(auto, using(card_words::proofs::Pushing::within, card_words::proofs::Pushing::all), unfolding(crate::specs::Sentences::said_of, card::specs::Places::read_value, quoted::specs::Quoted::quoted))]
 fn push_said_of(
     out: &mut [u8],
     at: usize,
@@ -96,9 +83,7 @@ fn push_said_of(
     let f = m.field;
     let count = numbers_in(text, m.line);
     let word = word_at(text, m.line, m.number);
-    let what = m.what;
-    match what {
-        Fault::Nothing => at,
+    match m.what {
         Fault::Unknown => push_bytes(out, at, b": there is no such field"),
         Fault::Twice(line) => push_twice(out, at, line),
         Fault::Foreign => push_not_had(out, at, kind, earlier, f),
@@ -106,7 +91,10 @@ fn push_said_of(
         Fault::TooMany => push_too_many(out, at, count, count_of(kind, f)),
         Fault::NotANumber => push_not_a_number(out, at, word),
         Fault::TooLarge => push_too_large(out, at, word),
-        Fault::Limit(refusal) => push_limit(out, at, word, f, m.number, value_of(word), refusal),
+        Fault::Limit(refusal) => {
+            let x = read(word).unwrap_or(0.0);
+            push_limit(out, at, word, f, m.number, x, refusal)
+        }
         Fault::Missing => push_missing(out, at, f),
     }
 }
@@ -124,6 +112,7 @@ pub(crate) fn push_mistake(out: &mut [u8], text: &[u8], kind: Kind, m: Mistake) 
 }
 
 // Whether document 01 takes the operating MHz as another.
+#[tactic(auto, unfolding(crate::specs::Sentences::is_remarked))]
 fn is_remarked(mode: u8, mhz: f32) -> bool
     ensures { result ≡ is_remarked mode mhz }
 {

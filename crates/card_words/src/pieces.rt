@@ -25,11 +25,7 @@ pub fn push_shown(out: &mut [u8], at: usize, word: &[u8]) -> usize
 pub fn capped(n: usize) -> u32
     ensures { result ≡ capped n }
 {
-    if n < 0xFFFF_FFFF {
-        n as u32
-    } else {
-        0xFFFF_FFFF
-    }
+    u32::try_from(n).unwrap_or(u32::MAX)
 }
 
 // A number in its digits.
@@ -43,6 +39,7 @@ pub fn push_number(out: &mut [u8], at: usize, n: usize) -> usize
 
 // A field's name.
 // Inner step: a sentence's buffer has room for it.
+#[tactic(auto, using(crate::proofs::Pushing::up_to, fields::proofs::Lengths::name_length))]
 pub fn push_field(out: &mut [u8], at: usize, f: usize) -> usize
     requires { at + 10 ≤ length out.old }
     ensures { Pushed 10 out.old at (name_of f) out.new result }

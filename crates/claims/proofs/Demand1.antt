@@ -11,7 +11,8 @@ use Rattle.answers.specs.Refusals.{LEVEL}
 use Rattle.floats.specs.Ranges.{all_finite}
 use Rattle.model.specs.Table.{table_size, blank_table}
 use Rattle.antenna.specs.SetUp.{set_up_of, kept_after, lent_after}
-use Rattle.antenna.specs.Gain.{Kind, kind_of, graded, number_at, gain_of}
+use Rattle.answers.specs.declared.Kind.{Kind}
+use Rattle.antenna.specs.Gain.{kind_of, graded, number_at, gain_of}
 use Rattle.plate_row.specs.Row.{elevation_ok, numbers_of, front_to_back, measured, row_of, written_after, row_after}
 use Rattle.antenna.specs.declared.record.Antenna.{Antenna}
 use Rattle.antenna_laws.proofs.Answered.{gain-answered, row-answered}

@@ -96,28 +96,35 @@ curtain-gain parm azimd elevd gnorm =
     refuses _ (take 3 (curtain_table parm azimd elevd gnorm)) LEVEL (not (finite x)) x refl refl (omega arith) (rw (either, turned (finite x) (accepted x) (refused LEVEL)))
 
 -- reader and writer: no test left, and one more before those that are
-no_more : {A : Type 0} (x : A) → outcome_of (station.accepted x) ≡ answered_by [] x
-unfolding outcome_of answered_by first_of
+no_more : {A : Type 0} (x : A) → accepted x ≡ answered_by [] x
+unfolding answered_by first_of
 no_more x = refl
 
-one_more : {A : Type 0} (x left : A) (number : ℕ) (p : Bool) (rest : station.Answer A) (lines : List Line) → outcome_of rest ≡ answered_by lines x
+one_more : {A : Type 0} (x : A) (number : ℕ) (p : Bool) (rest : Outcome A) (lines : List Line) → rest ≡ answered_by lines x
+    → cond p (refused (suc number)) rest ≡ answered_by ((suc number, p) ∷ lines) x
+unfolding answered_by first_of
+one_more {A} x number true rest lines e = sym (ap (λ (b : Bool). cond {A = Outcome A} b (refused (suc number)) (accepted x)) (lt-ltb 0 (suc number) (omega arith)))
+one_more {A} x number false rest lines e = e
+
+-- what a refusal of the writer leaves is no part of the outcome
+one_more_left : {A : Type 0} (x left : A) (number : ℕ) (p : Bool) (rest : station.Answer A) (lines : List Line) → outcome_of rest ≡ answered_by lines x
     → outcome_of (cond p (station.refused (suc number) left) rest) ≡ answered_by ((suc number, p) ∷ lines) x
 unfolding outcome_of answered_by first_of
-one_more {A} x left number true rest lines e = sym (ap (λ (b : Bool). cond {A = Outcome A} b (refused (suc number)) (accepted x)) (lt-ltb 0 (suc number) (omega arith)))
-one_more {A} x left number false rest lines e = e
+one_more_left x left number true rest lines e = one_more x number true (outcome_of rest) lines e
+one_more_left x left number false rest lines e = e
 
 answered : {A : Type 0} {o : Outcome A} (t : List Line) (x : A) → rising 0 t ≡ true → o ≡ answered_by t x → Refuses o t
 answered {A} t x r e = subst (λ (y : Outcome A). Refuses y t) (sym e) (by_table t r x)
 
-reader : (bytes : List ℕ) → Refuses (outcome_of (station.read_of bytes)) (read_table bytes)
+reader : (bytes : List ℕ) → Refuses (station.read_of bytes) (read_table bytes)
 unfolding station.read_of station.floats_answer read_table rising
-reader bytes = answered (read_table bytes) _ refl (one_more _ _ 0 _ _ _ (one_more _ _ 1 _ _ _ (no_more _)))
+reader bytes = answered (read_table bytes) _ refl (one_more _ 0 _ _ _ (one_more _ 1 _ _ _ (no_more _)))
 
 writer : (edition : ℕ) (s : Station) (out : List ℕ) → Refuses (outcome_of (station.write_of edition s out)) (write_table edition s out)
-unfolding station.write_of write_table rising
+unfolding station.write_of write_table rising outcome_of
 writer edition s out =
     answered (write_table edition s out) _ refl
-    (one_more _ _ 0 _ _ _ (one_more _ _ 1 _ _ _ (one_more _ _ 2 _ _ _ (one_more _ _ 3 _ _ _ (one_more _ _ 7 _ _ _ (no_more _))))))
+    (one_more_left _ _ 0 _ _ _ (one_more_left _ _ 1 _ _ _ (one_more_left _ _ 2 _ _ _ (one_more_left _ _ 3 _ _ _ (one_more_left _ _ 7 _ _ _ (no_more _))))))
 
 pub refusals : Refusals
 refusals = record { setmaxgain = setmaxgain; antinit2 = antinit2; ccirgain = ccirgain; row = row; curtain = curtain-gain; reader = reader; writer = writer }

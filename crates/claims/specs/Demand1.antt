@@ -8,7 +8,8 @@ use Rattle.answers.specs.Table.{Refuses}
 use Rattle.floats.specs.Ranges.{all_finite}
 use Rattle.model.specs.Table.{table_size, blank_table}
 use Rattle.antenna.specs.SetUp.{set_up_of, lent_after}
-use Rattle.antenna.specs.Gain.{Kind, kind_of, number_at, gain_of}
+use Rattle.answers.specs.declared.Kind.{Kind}
+use Rattle.antenna.specs.Gain.{kind_of, number_at, gain_of}
 use Rattle.plate_row.specs.Row.{elevation_ok, numbers_of, front_to_back, row_of, row_after}
 use Rattle.antenna.specs.declared.record.Antenna.{Antenna}
 use Rattle.request.specs.Request.{request_of, table_after}

@@ -10,7 +10,8 @@ use Rattle.model.specs.Limits.{slot}
 use Rattle.model.specs.Types.{jant_of}
 use Rattle.ground.specs.Table.{table_of}
 use Rattle.answers.specs.Outcome.{accepted}
-use Rattle.antenna.specs.Gain.{Kind, floor_level, gain_of}
+use Rattle.answers.specs.declared.Kind.{Kind}
+use Rattle.antenna.specs.Gain.{floor_level, gain_of}
 use Rattle.parameters.specs.Limits.{start_of}
 use Rattle.search.specs.Peaks.{Greatest, LastPeak}
 use Rattle.plate_row.specs.Row.{larger}

@@ -20,5 +20,5 @@ pub record Refusals : Type 0 where
   pub row : (a : Antenna) (t : List Float) (u giso : Float) (size : ℕ) → Refuses (row_of a t u giso size) (row_table a t u giso size)
   pub curtain : (parm : List Float) (azimd elevd gnorm : Float)
       → Refuses (curtain_gain parm azimd elevd gnorm) (curtain_table parm azimd elevd gnorm)
-  pub reader : (bytes : List ℕ) → Refuses (outcome_of (read_of bytes)) (read_table bytes)
+  pub reader : (bytes : List ℕ) → Refuses (read_of bytes) (read_table bytes)
   pub writer : (edition : ℕ) (s : Station) (out : List ℕ) → Refuses (outcome_of (write_of edition s out)) (write_table edition s out)

@@ -106,7 +106,7 @@ write_table edition s out =
     ∷ (SPACE when not (eqb (length out) 225))
     ∷ []
 
--- the outcome of reader and writer, without what a refusal leaves
+-- the outcome of the writer, without what a refusal leaves
 unfoldable pub outcome_of : {A : Type 0} → station.Answer A → Outcome A
 outcome_of (station.accepted x) = accepted x
 outcome_of (station.refused n left) = refused n

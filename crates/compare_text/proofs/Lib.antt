@@ -1,3 +1,2 @@
--- What the proofs of several functions cite: the rows of plates (`Rows`), and what was written, with its length (`Text`).
-mod Rows
+-- What the proofs of several functions cite: that what was written lies in the buffer (`Text`).
 mod Text

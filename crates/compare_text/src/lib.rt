@@ -6,46 +6,34 @@
 // many azimuths each leads; or a line for each mast that is refused.
 ghost use Rattle.std.specs.Prelude.{◌≡◌, ◌≤◌, ◌<◌, length, take};
 ghost use Rattle.labels.specs.Writing.{Put};
-ghost use Rattle.shown.specs.InOrder.{up_to};
-ghost use Rattle.shown.specs.Plate.{entry_at, shown_answer};
-ghost use Rattle.compare_text.specs.Compare.{Wrote, plates_text, answers_text, compare_in, output_in};
+ghost use Rattle.answers.specs.Outcome.{outcome_as};
+ghost use Rattle.shown.specs.Plate.{entries_of};
+ghost use Rattle.compare_text.specs.Compare.{Wrote, answers_text, compare_in, output_in};
 
+use answers::Refusal;
 use comparison::lines::push_refused;
 use comparison::push_lines;
-use shown::{Answer, Shown, show};
+use shown::{Shown, show};
 use words::bytes::push_bytes;
 
-// The lines of two plates.
-fn push_plates(out: &mut [u8], base: u32, first: Shown, second: Shown) -> usize
-    requires { (2048 ≤ length out.old) × (base < 360) }
-    ensures { Put 540 out.old 0 (plates_text base (up_to (entry_at first) 360) (up_to (entry_at second) 360)) out.new result }
-{
-    let a = first.numbers;
-    let a_kinds = first.kinds;
-    let b = second.numbers;
-    let b_kinds = second.kinds;
-    push_lines(out, base, &a, &a_kinds, &b, &b_kinds)
-}
-
 // The lines of two plates, or of the refusals.
-fn push_answers(out: &mut [u8], base: u32, first: Shown, second: Shown) -> usize
+fn push_answers(
+    out: &mut [u8],
+    base: u32,
+    first: Result<Shown, Refusal>,
+    second: Result<Shown, Refusal>,
+) -> usize
     requires { (2048 ≤ length out.old) × (base < 360) }
-    ensures { Put 540 out.old 0 (answers_text base (shown_answer first) (shown_answer second)) out.new result }
+    ensures { Put 540 out.old 0 (answers_text base (outcome_as entries_of first) (outcome_as entries_of second)) out.new result }
 {
-    let a = first.answer;
-    let b = second.answer;
-    match a {
-        Answer::Refused(n) => match b {
-            Answer::Refused(m) => {
-                let next = push_refused(out, 0, b'A', n);
-                push_refused(out, next, b'B', m)
-            }
-            Answer::Plate => push_refused(out, 0, b'A', n),
-        },
-        Answer::Plate => match b {
-            Answer::Refused(m) => push_refused(out, 0, b'B', m),
-            Answer::Plate => push_plates(out, base, first, second),
-        },
+    match (first, second) {
+        (Ok(a), Ok(b)) => push_lines(out, base, &a.numbers, &a.kinds, &b.numbers, &b.kinds),
+        (Err(r), Ok(_)) => push_refused(out, 0, b'A', u8::from(r)),
+        (Ok(_), Err(s)) => push_refused(out, 0, b'B', u8::from(s)),
+        (Err(r), Err(s)) => {
+            let next = push_refused(out, 0, b'A', u8::from(r));
+            push_refused(out, next, b'B', u8::from(s))
+        }
     }
 }
 
@@ -62,9 +50,7 @@ pub fn compare(first: &[u8], second: &[u8], base: u32, text: &mut [u8]) -> usize
     if base > 359 {
         return push_bytes(text, 0, b"base: refused 7\n");
     }
-    let a = show(first);
-    let b = show(second);
-    push_answers(text, base, a, b)
+    push_answers(text, base, show(first), show(second))
 }
 
 // Writes the output of the program `compare` for its input, the base in two bytes and the 237 of each

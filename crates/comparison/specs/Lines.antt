@@ -1,5 +1,7 @@
 -- Issue 27, "which mast leads at the azimuth of the base, how wide each beam is, what lies behind": the lines, in ASCII. Definitions only.
-use Rattle.std.specs.Prelude.{ℕ, ◌+◌, ◌-◌, Bool, cond, List, [], ◌∷◌, ◌++◌, eqb}
+use Rattle.std.specs.Prelude.{ℕ, ◌+◌, ◌-◌, Bool, cond, List, [], ◌∷◌, ◌++◌}
+use Rattle.answers.specs.declared.Kind.{Kind}
+use Rattle.dial.specs.Kinds.{is_level, is_floor, is_silence}
 use Rattle.quoted.specs.Quoted.{quoted}
 use Rattle.labels.specs.Writing.{whole, reading}
 use Rattle.figures.specs.Figures.{difference, leads_at, leads_of}
@@ -16,13 +18,13 @@ named name words = (name ∷ []) ++ words
 -- `A 3.21 dBi`, `A floor`, `A silence`
 unfoldable pub reading_text : ℕ → Reading → List ℕ
 reading_text name r =
-    cond (eqb r.kind 0) ((name ∷ []) ++ reading (quoted " ") r.number ++ quoted " dBi")
-    (cond (eqb r.kind 1) (named name (quoted " floor")) (named name (quoted " silence")))
+    cond (is_level r.kind) ((name ∷ []) ++ reading (quoted " ") r.number ++ quoted " dBi")
+    (cond (is_floor r.kind) (named name (quoted " floor")) (named name (quoted " silence")))
 
 -- the leader, and by how much where the other has a level too
 unfoldable pub leader_text : ℕ → Reading → Reading → List ℕ
 leader_text name r other =
-    cond (eqb other.kind 0) ((name ∷ []) ++ difference (quoted " leads by ") r.number other.number ++ quoted " dB")
+    cond (is_level other.kind) ((name ∷ []) ++ difference (quoted " leads by ") r.number other.number ++ quoted " dB")
     (named name (quoted " leads"))
 
 unfoldable pub verdict_text : Bool → Bool → Reading → Reading → List ℕ
@@ -43,8 +45,8 @@ beam_line m =
 -- a mast is silent where its first entry is, and a floor all round where its peak is one
 unfoldable pub peak_line : Mast → List ℕ
 peak_line m =
-    cond (eqb m.front.kind 2) (named m.name (quoted ": silence, no gain in any direction\n"))
-    (cond (eqb m.peak.kind 1) (named m.name (quoted ": floor all round, -30 dBi or less\n")) (beam_line m))
+    cond (is_silence m.front.kind) (named m.name (quoted ": silence, no gain in any direction\n"))
+    (cond (is_floor m.peak.kind) (named m.name (quoted ": floor all round, -30 dBi or less\n")) (beam_line m))
 
 -- ---- behind
 
@@ -60,8 +62,8 @@ floor_behind m =
 
 unfoldable pub behind_text : Mast → List ℕ
 behind_text m =
-    cond (eqb m.front.kind 2) (quoted "silence\n")
-    (cond (eqb m.peak.kind 1) (quoted "floor\n") (cond (eqb m.behind.kind 1) (floor_behind m) (level_behind m)))
+    cond (is_silence m.front.kind) (quoted "silence\n")
+    (cond (is_floor m.peak.kind) (quoted "floor\n") (cond (is_floor m.behind.kind) (floor_behind m) (level_behind m)))
 
 unfoldable pub behind_line : Mast → List ℕ
 behind_line m = quoted "behind " ++ (m.name ∷ []) ++ quoted ", 90 to 270: " ++ behind_text m
@@ -81,7 +83,7 @@ unfoldable pub refused_line : ℕ → ℕ → List ℕ
 refused_line name number = (name ∷ []) ++ whole (quoted ": refused ") number ++ quoted "\n"
 
 -- the lines of two rows, each its numbers and kinds
-unfoldable pub lines_of : ℕ → List ℕ → List ℕ → List ℕ → List ℕ → List ℕ
+unfoldable pub lines_of : ℕ → List ℕ → List Kind → List ℕ → List Kind → List ℕ
 lines_of base a ka b kb =
     base_line base (leads_at a ka b base) (leads_at b kb a base) (reading_of a ka base) (reading_of b kb base)
     ++ mast_lines (mast_of A a ka) (mast_of B b kb)

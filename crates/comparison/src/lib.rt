@@ -10,6 +10,7 @@ ghost use Rattle.std.specs.Prelude.{◌≤◌, ◌<◌, length};
 ghost use Rattle.labels.specs.Writing.{Put};
 ghost use Rattle.comparison.specs.Lines.{lines_of};
 
+use answers::Kind;
 use figures::{leads, leads_at};
 use lines::{push_base, push_masts, push_round};
 use masts::{mast_of, reading_at};
@@ -19,9 +20,9 @@ pub fn push_lines(
     out: &mut [u8],
     base: u32,
     a: &[u32; 360],
-    a_kinds: &[u8; 360],
+    a_kinds: &[Kind; 360],
     b: &[u32; 360],
-    b_kinds: &[u8; 360],
+    b_kinds: &[Kind; 360],
 ) -> usize
     requires { (2048 ≤ length out.old) × (base < 360) }
     ensures { Put 540 out.old 0 (lines_of base a.now a_kinds.now b.now b_kinds.now) out.new result }

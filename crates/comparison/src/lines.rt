@@ -4,6 +4,7 @@ ghost use Rattle.labels.specs.Writing.{Put};
 ghost use Rattle.comparison.specs.Lines.{named, reading_text, leader_text, verdict_text, base_line, beam_line, peak_line, level_behind, floor_behind, behind_text, behind_line, mast_lines, round_line, refused_line};
 
 use crate::masts::{Mast, Reading};
+use answers::Kind;
 use figures::push_difference;
 use labels::{push_reading, push_whole};
 use words::bytes::{push, push_bytes};
@@ -21,15 +22,15 @@ fn push_gain(out: &mut [u8], at: usize, name: u8, r: Reading) -> usize
     requires { at + 20 ≤ length out.old }
     ensures { Put 20 out.old at (reading_text name r) out.new result }
 {
-    if r.kind == 0 {
-        let number_at = push(out, at, name);
-        let unit_at = push_reading(out, number_at, b" ", r.number);
-        return push_bytes(out, unit_at, b" dBi");
+    match r.kind {
+        Kind::Level => {
+            let number_at = push(out, at, name);
+            let unit_at = push_reading(out, number_at, b" ", r.number);
+            push_bytes(out, unit_at, b" dBi")
+        }
+        Kind::Floor => push_named(out, at, name, b" floor"),
+        Kind::Silence => push_named(out, at, name, b" silence"),
     }
-    if r.kind == 1 {
-        return push_named(out, at, name, b" floor");
-    }
-    push_named(out, at, name, b" silence")
 }
 
 // Who leads, and by how much.
@@ -37,12 +38,14 @@ fn push_leader(out: &mut [u8], at: usize, name: u8, r: Reading, other: Reading) 
     requires { at + 28 ≤ length out.old }
     ensures { Put 28 out.old at (leader_text name r other) out.new result }
 {
-    if other.kind == 0 {
-        let by_at = push(out, at, name);
-        let unit_at = push_difference(out, by_at, b" leads by ", r.number, other.number);
-        return push_bytes(out, unit_at, b" dB");
+    match other.kind {
+        Kind::Level => {
+            let by_at = push(out, at, name);
+            let unit_at = push_difference(out, by_at, b" leads by ", r.number, other.number);
+            push_bytes(out, unit_at, b" dB")
+        }
+        _ => push_named(out, at, name, b" leads"),
     }
-    push_named(out, at, name, b" leads")
 }
 
 fn push_verdict(
@@ -103,13 +106,13 @@ fn push_peak(out: &mut [u8], at: usize, m: Mast) -> usize
     requires { at + 80 ≤ length out.old }
     ensures { Put 80 out.old at (peak_line m) out.new result }
 {
-    if m.front.kind == 2 {
-        return push_named(out, at, m.name, b": silence, no gain in any direction\n");
+    match (m.front.kind, m.peak.kind) {
+        (Kind::Silence, _) => {
+            push_named(out, at, m.name, b": silence, no gain in any direction\n")
+        }
+        (_, Kind::Floor) => push_named(out, at, m.name, b": floor all round, -30 dBi or less\n"),
+        _ => push_beam(out, at, m),
     }
-    if m.peak.kind == 1 {
-        return push_named(out, at, m.name, b": floor all round, -30 dBi or less\n");
-    }
-    push_beam(out, at, m)
 }
 
 fn push_level(out: &mut [u8], at: usize, m: Mast) -> usize
@@ -145,16 +148,12 @@ fn push_rear(out: &mut [u8], at: usize, m: Mast) -> usize
     requires { at + 64 ≤ length out.old }
     ensures { Put 64 out.old at (behind_text m) out.new result }
 {
-    if m.front.kind == 2 {
-        return push_bytes(out, at, b"silence\n");
+    match (m.front.kind, m.peak.kind, m.behind.kind) {
+        (Kind::Silence, _, _) => push_bytes(out, at, b"silence\n"),
+        (_, Kind::Floor, _) => push_bytes(out, at, b"floor\n"),
+        (_, _, Kind::Floor) => push_floor(out, at, m),
+        _ => push_level(out, at, m),
     }
-    if m.peak.kind == 1 {
-        return push_bytes(out, at, b"floor\n");
-    }
-    if m.behind.kind == 1 {
-        return push_floor(out, at, m);
-    }
-    push_level(out, at, m)
 }
 
 fn push_behind(out: &mut [u8], at: usize, m: Mast) -> usize

@@ -2,13 +2,14 @@
 ghost use Rattle.std.specs.Prelude.{◌≡◌, ◌<◌};
 ghost use Rattle.comparison.specs.Masts.{reading_of, mast_of};
 
+use answers::Kind;
 use dial::peak_azimuth;
 use figures::{beam, behind};
 
-// A gain: 0 a level, 1 a floor, 2 a silence; raised hundredths.
+// A gain, in raised hundredths.
 #[derive(Clone, Copy)]
 pub struct Reading {
-    pub kind: u8,
+    pub kind: Kind,
     pub number: u32,
 }
 
@@ -28,19 +29,19 @@ pub struct Mast {
     pub behind: Reading,
 }
 
-pub(crate) fn reading_at(numbers: &[u32; 360], kinds: &[u8; 360], v: usize) -> Reading
+#[tactic(auto, unfolding(crate::specs::Masts::reading_of))]
+pub(crate) fn reading_at(numbers: &[u32; 360], kinds: &[Kind; 360], v: usize) -> Reading
     requires { v < 360 }
     ensures { result ≡ reading_of numbers.now kinds.now v }
 {
-    let number = numbers[v];
-    let kind = kinds[v];
-    if kind < 2 {
-        return Reading { kind, number };
+    Reading {
+        kind: kinds[v],
+        number: numbers[v],
     }
-    Reading { kind: 2, number }
 }
 
-pub(crate) fn mast_of(name: u8, numbers: &[u32; 360], kinds: &[u8; 360]) -> Mast
+#[tactic(auto, unfolding(crate::specs::Masts::mast_of))]
+pub(crate) fn mast_of(name: u8, numbers: &[u32; 360], kinds: &[Kind; 360]) -> Mast
     ensures { result ≡ mast_of name numbers.now kinds.now }
 {
     let azimuth = peak_azimuth(numbers);

@@ -32,6 +32,7 @@ const SINES: [u32; 91] = [
 ];
 
 // The degrees from 0 to 90 whose sine is as large as that of v degrees.
+#[tactic(auto, unfolding(crate::specs::Compass::folded_of))]
 fn folded(v: u32) -> usize
     ensures { (result ≡ folded_of v) × (result ≤ 90) }
 {
@@ -42,6 +43,7 @@ fn folded(v: u32) -> usize
     w as usize
 }
 
+#[tactic(auto, using(crate::proofs::Sines::sines_are), unfolding(crate::specs::Compass::sine_size))]
 fn sine_size(v: u32) -> u32
     ensures { result ≡ sine_size v }
 {
@@ -57,6 +59,7 @@ fn part(v: u32, r: u32) -> u32
     ((product + 0x2000_0000) / 0x4000_0000) as u32
 }
 
+#[tactic(auto, unfolding(crate::specs::Compass::rises_at))]
 fn rises(v: u32) -> bool
     ensures { result ≡ rises_at v }
 {

@@ -8,13 +8,6 @@ use Rattle.model.specs.Limits.{slot, in_band}
 use Rattle.answers.specs.Outcome.{Outcome, refused, accepted}
 use Rattle.answers.specs.Refusals.{VALUE, BAND, AIM, LEVEL}
 use Rattle.curtain.specs.Level.{level_of}
-use Rattle.curtain.specs.declared.answer.Gain.{Gain}
-use Rattle.curtain.specs.declared.answer.Gain.TheVariants.{Level, Refused}
-
--- what each case of the enum stands for: an accepted number is a level
-abbrev pub answer_of : Gain → Outcome Float
-answer_of (Level x) = accepted x
-answer_of (Refused n) = refused n
 
 -- ---- before the level is computed: the first number of document 01's table, 0 where there is none
 

@@ -9,13 +9,6 @@ use Rattle.curtain_parameters.specs.Pattrn0.{curtain_of}
 use Rattle.curtain.specs.Level.{factor_of, factor_readings, level_at}
 use Rattle.curtain.specs.Answers.{station_refusal_of, graded}
 use Rattle.curtain_pattern.specs.declared.pattern.Curtain.{Curtain}
-use Rattle.curtain.specs.declared.levels.Answer.{Answer}
-use Rattle.curtain.specs.declared.levels.Answer.TheVariants.{Readings, Refused}
-
--- what each case of the enum stands for: an accepted call answers its readings
-abbrev pub answered : Answer → Outcome ℕ
-answered (Readings n) = accepted n
-answered (Refused n) = refused n
 
 -- ---- a pair
 

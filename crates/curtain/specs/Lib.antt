@@ -3,5 +3,3 @@ pub mod Level
 pub mod Answers
 pub mod Factor
 pub mod Levels
--- the code's steps, proved equal
-pub mod LevelsSteps

@@ -9,38 +9,35 @@
 // (`factor_answers`, proofs/FactorAnswers.antt). `levels::levels` answers up to 64 directions from one
 // integral, with the readings that it took (specs/Levels.antt, `levels_call`): each level is what `gain`
 // answers there (`each_level`, proofs/Directions.antt).
-pub mod answer;
 mod level;
 pub mod levels;
 mod refusal;
 
 ghost use Rattle.std.specs.Prelude.{◌≡◌};
-ghost use Rattle.curtain.specs.Answers as Answers;
+ghost use Rattle.answers.specs.Outcome.{outcome};
+ghost use Rattle.curtain.specs.Answers.{curtain_gain};
 ghost use Rattle.curtain.specs.Factor.{factor_found};
 
-use crate::answer::Gain;
+use answers::Refusal;
+use level::{factor_of, graded, level_of};
+use refusal::{check, check_station};
 
 // The gain at azimd degrees off boresight and elevd degrees of elevation. gnorm is the normalising
 // factor; -99999 asks for the integral.
-pub fn gain(parm: [f32; 20], azimd: f32, elevd: f32, gnorm: f32) -> Gain
-    ensures { Answers.answer_of result ≡ Answers.curtain_gain parm azimd elevd gnorm }
+#[tactic(auto, using(answers::proofs::Outcome::refused_by, answers::proofs::Outcome::granted_by), unfolding(crate::specs::Answers::curtain_gain))]
+pub fn gain(parm: [f32; 20], azimd: f32, elevd: f32, gnorm: f32) -> Result<f32, Refusal>
+    ensures { outcome result ≡ curtain_gain parm azimd elevd gnorm }
 {
-    let number = refusal::refusal(parm, azimd, elevd, gnorm);
-    if 0 < number {
-        return Gain::Refused(number);
-    }
-    answer::graded(level::level_of(parm, azimd, elevd, gnorm))
+    check(parm, azimd, elevd, gnorm)?;
+    graded(level_of(parm, azimd, elevd, gnorm))
 }
 
 // The factor that the integral finds, to ask many directions with: a number as a level is one, or
-// the station's refusal, or 10.
-pub fn factor(parm: [f32; 20]) -> Gain
-    ensures { Answers.answer_of result ≡ factor_found parm }
+// the station's refusal, or that of a number that isn't finite.
+#[tactic(auto, using(answers::proofs::Outcome::refused_by, answers::proofs::Outcome::granted_by), unfolding(crate::specs::Factor::factor_found))]
+pub fn factor(parm: [f32; 20]) -> Result<f32, Refusal>
+    ensures { outcome result ≡ factor_found parm }
 {
-    let number = refusal::station_refusal(parm, -99999.0);
-    if 0 < number {
-        return Gain::Refused(number);
-    }
-    let found = level::factor_of(parm, -99999.0);
-    answer::graded(found.value)
+    check_station(parm, -99999.0)?;
+    graded(factor_of(parm, -99999.0).value)
 }

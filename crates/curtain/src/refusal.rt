@@ -1,12 +1,14 @@
-// Why a curtain is refused before its level is computed: the first number of document 01's table,
-// 0 where there is none.
+// Why a curtain is refused before its level is computed: the first number of document 01's table.
 ghost use Rattle.std.specs.Prelude.{◌≡◌};
+ghost use Rattle.answers.specs.Outcome.{number_of};
 ghost use Rattle.curtain.specs.Answers as Answers;
 
+use answers::Refusal;
 use floats::range::{all_finite, is_between};
 use model::limits::in_band;
 use numeric::float::is_finite;
 
+#[tactic(auto, unfolding(crate::specs::Answers::station_finite))]
 fn station_finite(parm: [f32; 20], gnorm: f32) -> bool
     ensures { result ≡ Answers.station_finite parm gnorm }
 {
@@ -14,6 +16,7 @@ fn station_finite(parm: [f32; 20], gnorm: f32) -> bool
 }
 
 // Operating and design MHz.
+#[tactic(auto, unfolding(crate::specs::Answers::band_ok))]
 fn band_ok(parm: [f32; 20]) -> bool
     ensures { result ≡ Answers.band_ok parm }
 {
@@ -21,6 +24,7 @@ fn band_ok(parm: [f32; 20]) -> bool
 }
 
 // The slew.
+#[tactic(auto, unfolding(crate::specs::Answers::aim_ok))]
 fn aim_ok(parm: [f32; 20]) -> bool
     ensures { result ≡ Answers.aim_ok parm }
 {
@@ -28,28 +32,30 @@ fn aim_ok(parm: [f32; 20]) -> bool
 }
 
 // Of a station with its factor, in any direction.
-pub(crate) fn station_refusal(parm: [f32; 20], gnorm: f32) -> u8
-    ensures { result ≡ Answers.station_refusal_of parm gnorm }
+#[tactic(auto, unfolding(crate::specs::Answers::station_refusal_of))]
+pub(crate) fn check_station(parm: [f32; 20], gnorm: f32) -> Result<(), Refusal>
+    ensures { number_of result ≡ Answers.station_refusal_of parm gnorm }
 {
     if !station_finite(parm, gnorm) {
-        return answers::VALUE;
+        return Err(Refusal::Value);
     }
     if !band_ok(parm) {
-        return answers::BAND;
+        return Err(Refusal::Band);
     }
     if !aim_ok(parm) {
-        return answers::AIM;
+        return Err(Refusal::Aim);
     }
-    0
+    Ok(())
 }
 
-// Of a station in one direction. VALUE is the lowest number that a curtain is refused with, so the
+// Of a station in one direction. Value is the lowest number that a curtain is refused with, so the
 // direction's goes before all of the station's.
-pub(crate) fn refusal(parm: [f32; 20], azimd: f32, elevd: f32, gnorm: f32) -> u8
-    ensures { result ≡ Answers.refusal_of parm azimd elevd gnorm }
+#[tactic(auto, unfolding(crate::specs::Answers::refusal_of))]
+pub(crate) fn check(parm: [f32; 20], azimd: f32, elevd: f32, gnorm: f32) -> Result<(), Refusal>
+    ensures { number_of result ≡ Answers.refusal_of parm azimd elevd gnorm }
 {
     if !(is_finite(azimd) & is_finite(elevd)) {
-        return answers::VALUE;
+        return Err(Refusal::Value);
     }
-    station_refusal(parm, gnorm)
+    check_station(parm, gnorm)
 }

@@ -4,64 +4,55 @@
 // floats, and answer what `curtain` answers of them (specs/Curtain.antt): bits, a count, or a refusal's
 // number under kind 3; the levels are left in lent floats, which a refusal leaves as they were.
 ghost use Rattle.std.specs.Prelude.{◌≡◌};
-ghost use Rattle.curtain.specs.Answers.{answer_of};
-ghost use Rattle.curtain.specs.Levels.{answered};
+ghost use Rattle.answers.specs.Outcome.{outcome};
 ghost use Rattle.packed.specs.Packed.{counted};
 ghost use Rattle.curtain_calls.specs.Curtain.{packed, curtain_call, factor_call, curtain_levels_call};
 
-use curtain::answer::Gain;
-use curtain::levels::Answer;
+use answers::Refusal;
 use numeric::bits::bits_of;
-use packed::REFUSED;
-use packed::arrays::parm_at;
+use packed::refused;
 
-// Kind 0 with a level's or a factor's bits, or kind 3 with a refusal's number.
-fn pack(g: Gain) -> u64
-    ensures { result ≡ packed (answer_of g) }
+// Kind 0 with a count or a float's bits, or kind 3 with a refusal's number.
+#[tactic(auto, unfolding(packed::specs::Packed::counted))]
+fn pack(answer: Result<u32, Refusal>) -> u64
+    ensures { result ≡ counted (outcome answer) }
 {
-    match g {
-        Gain::Level(x) => bits_of(x) as u64,
-        Gain::Refused(n) => REFUSED + n as u64,
+    match answer {
+        Ok(n) => n as u64,
+        Err(r) => refused(r),
     }
 }
 
 // `curtain::gain` of twenty parameters; 8 first for parameters of another number.
+#[tactic(auto, unfolding(crate::specs::Curtain::curtain_call, crate::specs::Curtain::packed, packed::specs::Packed::counted))]
 pub fn gain(parm: &[f32], azimuth: f32, elevation: f32, factor: f32) -> u64
     ensures { result ≡ curtain_call parm.now azimuth elevation factor }
 {
-    if parm.len() != 20 {
-        return REFUSED + 8;
+    match <[f32; 20]>::try_from(parm) {
+        Ok(p) => pack(curtain::gain(p, azimuth, elevation, factor).map(bits_of)),
+        Err(_) => refused(Refusal::Space),
     }
-    pack(curtain::gain(parm_at(parm, 0), azimuth, elevation, factor))
 }
 
 // `curtain::factor` of twenty parameters; 8 first for parameters of another number.
+#[tactic(auto, unfolding(crate::specs::Curtain::factor_call, crate::specs::Curtain::packed, packed::specs::Packed::counted))]
 pub fn factor(parm: &[f32]) -> u64
     ensures { result ≡ factor_call parm.now }
 {
-    if parm.len() != 20 {
-        return REFUSED + 8;
-    }
-    pack(curtain::factor(parm_at(parm, 0)))
-}
-
-// Kind 0 with the readings, or kind 3 with a refusal's number.
-fn pack_readings(a: Answer) -> u64
-    ensures { result ≡ counted (answered a) }
-{
-    match a {
-        Answer::Readings(n) => n as u64,
-        Answer::Refused(n) => REFUSED + n as u64,
+    match <[f32; 20]>::try_from(parm) {
+        Ok(p) => pack(curtain::factor(p).map(bits_of)),
+        Err(_) => refused(Refusal::Space),
     }
 }
 
 // `curtain::levels` of twenty parameters: the levels at the pairs of azimuth and elevation in the
 // lent floats. 8 first for parameters of another number.
+#[tactic(auto, unfolding(crate::specs::Curtain::curtain_levels_call))]
 pub fn levels(parm: &[f32], factor: f32, directions: &[f32], levels: &mut [f32]) -> u64
     ensures { (result, levels.new) ≡ curtain_levels_call parm.now factor directions.now levels.old }
 {
-    if parm.len() != 20 {
-        return REFUSED + 8;
+    match <[f32; 20]>::try_from(parm) {
+        Ok(p) => pack(curtain::levels::levels(p, factor, directions, levels)),
+        Err(_) => refused(Refusal::Space),
     }
-    pack_readings(curtain::levels::levels(parm_at(parm, 0), factor, directions, levels))
 }

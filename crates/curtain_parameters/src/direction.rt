@@ -13,6 +13,7 @@ use curtain_pattern::constants::D2R;
 use curtain_pattern::pattern::{Elevation, cos_at, dipole, sin_at, stack_power};
 use floats::rounding::nint;
 
+#[tactic(auto, using(crate::proofs::Few::few), unfolding(crate::specs::DirectionSteps::place_of))]
 fn bay_place(xb: f32, i: usize) -> f32
     requires { i < 14 }
     ensures { result ≡ Steps.place_of xb i }
@@ -21,6 +22,7 @@ fn bay_place(xb: f32, i: usize) -> f32
 }
 
 // The power of the bays; each has the ratio 1.
+#[tactic(auto, unfolding(crate::specs::DirectionSteps::bay_cosines_of, crate::specs::DirectionSteps::bay_sines_of, crate::specs::DirectionSteps::arg_of, crate::specs::DirectionSteps::bay_power_of))]
 fn bay_power_of(odrat: f32, islew: i32, xb: f32, nbs: usize, cpsi: f32) -> f32
     requires { nbs ≤ 14 }
     ensures { result ≡ Steps.bay_power_of odrat islew xb cpsi nbs }
@@ -36,6 +38,7 @@ fn bay_power_of(odrat: f32, islew: i32, xb: f32, nbs: usize, cpsi: f32) -> f32
 }
 
 // The sum over the stacks.
+#[tactic(auto, using(crate::proofs::Few::few), unfolding(crate::specs::DirectionSteps::stack_sines_of))]
 fn stack_sines_of(mode: usize, xs: f32, xh: f32, nostak: usize, stheta: f32) -> f32
     requires { (1 ≤ mode) × (mode ≤ 15) × (nostak ≤ 8) }
     ensures { result ≡ Steps.stack_sines_of mode xs xh stheta nostak }
@@ -47,6 +50,7 @@ fn stack_sines_of(mode: usize, xs: f32, xh: f32, nostak: usize, stheta: f32) -> 
     fz
 }
 
+#[tactic(auto, using(crate::proofs::direction::Tables::stacks_in_steps), unfolding(crate::specs::Pattrn0::nostak_of, crate::specs::Pattrn0::mode_of, curtain_pattern::specs::PatternSteps::elevation_of))]
 fn elevation_of(parm: [f32; 20], l: Lengths, theta: f32) -> Elevation
     requires { l ≡ Pattrn0.lengths_of parm }
     ensures { result ≡ PatternSteps.elevation_of (Pattrn0.curtain_of parm) theta }
@@ -70,6 +74,7 @@ fn bay_power_at(parm: [f32; 20], l: Lengths, cpsi: f32) -> f32
 }
 
 // The curtain's unnormalised power pattern at one direction, in radians. Inner step: of the level.
+#[tactic(auto, using(curtain_pattern::proofs::InSteps::f2_in_steps, crate::proofs::direction::Tables::eil_is, crate::proofs::direction::Tables::ceil_is, crate::proofs::direction::Tables::xr_is), unfolding(curtain_pattern::specs::PatternSteps::f2_at))]
 pub fn f2_of(parm: [f32; 20], theta: f32, phi: f32) -> f32
     ensures { result ≡ Pattern.f2 (Pattrn0.curtain_of parm) theta phi }
 {

@@ -1,5 +1,5 @@
 // What the stacks and the bays are fed with: the source's `IVMA` and `IPHASE`.
-ghost use Rattle.std.specs.Prelude.{◌≡◌, ◌≤◌, ◌<◌, nat_abs};
+ghost use Rattle.std.specs.Prelude.{◌≡◌, ◌≤◌, ◌<◌};
 ghost use Rattle.curtain_parameters.specs.Excitation as Excitation;
 
 // `IVMA`: a row for each mode, a sign for each pair of stacks.
@@ -49,26 +49,17 @@ const IPHASE: [[u16; 14]; 8] = [
     ],
 ];
 
-// The source's `unsigned_abs`: the size of k, which i32::MIN has too.
-pub(crate) fn unsigned_abs(k: i32) -> u32
-    ensures { result ≡ nat_abs k }
-{
-    if k < 0 { -(k as i64) as u32 } else { k as u32 }
-}
-
 // The slew step, `kslew` - 1: one for each 4 degrees, at most 7.
+#[tactic(auto, unfolding(crate::specs::Excitation::slew_step))]
 pub(crate) fn slew_step(islew: i32) -> usize
     ensures value { result ≡ Excitation.slew_step islew }
     ensures upper_bound { result ≤ 7 }
 {
-    let step = unsigned_abs(islew) / 4;
-    if step > 7 {
-        return 7;
-    }
-    step as usize
+    (islew.unsigned_abs() / 4).min(7) as usize
 }
 
 // The phase of bay i at a slew step.
+#[tactic(auto, unfolding(crate::specs::Excitation::phase_at))]
 fn phase_at(step: usize, i: usize) -> u16
     requires { (step ≤ 7) × (i < 14) }
     ensures { result ≡ Excitation.phase_at step i }
@@ -77,6 +68,7 @@ fn phase_at(step: usize, i: usize) -> u16
 }
 
 // `bayphs`, of bay i: positive for a slew below 0.
+#[tactic(auto, unfolding(crate::specs::Excitation::bayphs))]
 pub(crate) fn bay_phase(islew: i32, i: usize) -> f32
     requires { i < 14 }
     ensures { result ≡ Excitation.bayphs islew i }

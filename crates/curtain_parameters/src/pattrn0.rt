@@ -21,6 +21,7 @@ pub(crate) struct Lengths {
 }
 
 // A length below 0 is in waves of the design frequency.
+#[tactic(auto, unfolding(crate::specs::Pattrn0::to_metres))]
 fn to_metres(parm: [f32; 20], v: f32) -> f32
     ensures { result ≡ Pattrn0.to_metres parm v }
 {
@@ -28,6 +29,7 @@ fn to_metres(parm: [f32; 20], v: f32) -> f32
     if v < 0.0 { -v * wave_design } else { v }
 }
 
+#[tactic(auto, unfolding(crate::specs::Pattrn0::beta_of))]
 fn beta_of(parm: [f32; 20]) -> f32
     ensures { result ≡ Pattrn0.beta_of parm }
 {
@@ -35,6 +37,7 @@ fn beta_of(parm: [f32; 20]) -> f32
     PI2 / wave
 }
 
+#[tactic(auto, unfolding(crate::specs::Pattrn0::lengths_of))]
 pub(crate) fn lengths_of(parm: [f32; 20]) -> Lengths
     ensures { result ≡ Pattrn0.lengths_of parm }
 {
@@ -60,6 +63,7 @@ pub(crate) struct Stacks {
     pub z: [f32; 8],
 }
 
+#[tactic(auto, using(crate::proofs::Few::few), unfolding(crate::specs::Pattrn0::stack_ratios, crate::specs::Pattrn0::stack_heights, floats::specs::Filled::filled_to))]
 fn stacks_of(mode: usize, l: Lengths, nostak: usize) -> Stacks
     requires { (1 ≤ mode) × (mode ≤ 15) × (nostak ≤ 8) }
     ensures c_value { result.c ≡ Pattrn0.stack_ratios mode nostak }
@@ -84,6 +88,7 @@ pub(crate) struct Bays {
     pub y: [f32; 14],
 }
 
+#[tactic(auto, using(crate::proofs::Few::few), unfolding(crate::specs::Pattrn0::bay_phases, crate::specs::Pattrn0::bay_ratios, floats::specs::Filled::filled_to, crate::specs::Pattrn0::bay_places))]
 fn bays_of(odrat: f32, islew: i32, xb: f32, nbs: usize) -> Bays
     requires { nbs ≤ 14 }
     ensures ps_value { result.ps ≡ Pattrn0.bay_phases odrat islew nbs }
@@ -103,6 +108,7 @@ fn bays_of(odrat: f32, islew: i32, xb: f32, nbs: usize) -> Bays
 }
 
 // Inner step: of the integral.
+#[tactic(auto, unfolding(crate::specs::Pattrn0::curtain_of, crate::specs::Pattrn0::nostak_of, crate::specs::Pattrn0::nbs_of, crate::specs::Pattrn0::mode_of, crate::specs::Pattrn0::islew_of, crate::specs::Pattrn0::odrat_of))]
 pub fn curtain_of(parm: [f32; 20]) -> Curtain
     ensures value { result ≡ Pattrn0.curtain_of parm }
     ensures counted { Pattern.Counted result }

@@ -13,7 +13,11 @@ pub struct Read {
     pub readings: u32,
 }
 
-// The readings between the ends of a sweep of the azimuth at the elevation t.
+// The readings between the ends of a sweep of the azimuth.
+const BETWEEN: u32 = 179;
+
+// Those at the elevation t.
+#[tactic(auto, using(crate::proofs::ReadingCount::read_is, crate::proofs::ReadingCount::inner_readings), unfolding(crate::specs::Integral::p_after, crate::specs::Integral::readings))]
 fn readings(ant: Curtain, t: f32) -> Read
     requires { Pattern.Counted ant }
     ensures { result ≡ Integral.readings ant t 179 }
@@ -21,19 +25,18 @@ fn readings(ant: Curtain, t: f32) -> Read
     let e = elevation_at(ant, t);
     let mut p = -90.0 * D2R + D2R;
     let mut pint: f32 = 0.0;
-    let mut readings: u32 = 0;
-    while readings < 179 {
+    for k in 0..BETWEEN {
         pint += f2_at(ant, e, p);
-        readings += 1;
         p += D2R;
     }
     Read {
         value: pint,
-        readings,
+        readings: BETWEEN,
     }
 }
 
 // A sweep of the azimuth: the readings, and half of each end.
+#[tactic(auto, using(crate::proofs::ReadingCount::inner_readings))]
 fn sweep(ant: Curtain, t: f32) -> Read
     requires { Pattern.Counted ant }
     ensures { result ≡ Integral.pint ant t }
@@ -47,6 +50,7 @@ fn sweep(ant: Curtain, t: f32) -> Read
 }
 
 // What the elevation t adds: half of it at the two ends.
+#[tactic(auto, unfolding(crate::specs::Integral::strip, crate::specs::Integral::through))]
 fn strip(ant: Curtain, t: f32, end: bool) -> Read
     requires { Pattern.Counted ant }
     ensures { result ≡ Integral.strip ant t end }

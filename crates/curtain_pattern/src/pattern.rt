@@ -23,6 +23,7 @@ pub struct Curtain {
 }
 
 // One dipole, cpsi being the cosine of the angle to it.
+#[tactic(auto, unfolding(crate::specs::Pattern::ef_of))]
 pub fn dipole(eil: f32, ceil: f32, cpsi: f32) -> f32
     ensures { result ≡ Pattern.ef_of eil ceil cpsi }
 {
@@ -54,39 +55,36 @@ pub fn sin_at(phase: f32) -> f32
 }
 
 // The power of the bays.
+#[tactic(auto, unfolding(crate::specs::Pattern::bay_cosines, crate::specs::Pattern::bay_sines, crate::specs::Pattern::arg, crate::specs::Pattern::bay_power))]
 fn bay_power(ant: Curtain, cpsi: f32) -> f32
     requires { ant.nbs ≤ 14 }
     ensures { result ≡ Pattern.bay_power ant cpsi }
 {
-    let nbs = ant.nbs;
     let mut fyr: f32 = 0.0;
     let mut fyi: f32 = 0.0;
-    let mut i: usize = 0;
-    while i < nbs {
+    for i in 0..ant.nbs {
         let arg = ant.y[i] * cpsi + ant.ps[i];
         fyr += ant.r[i] * cos_at(arg);
         fyi += ant.r[i] * sin_at(arg);
-        i += 1;
     }
     fyr * fyr + fyi * fyi
 }
 
 // The sum over the stacks.
+#[tactic(auto, unfolding(crate::specs::Pattern::stack_sines))]
 fn stack_sines(ant: Curtain, stheta: f32) -> f32
     requires { ant.nostak ≤ 8 }
     ensures { result ≡ Pattern.stack_sines ant stheta ant.nostak }
 {
-    let nostak = ant.nostak;
     let mut fzphr: f32 = 0.0;
-    let mut i: usize = 0;
-    while i < nostak {
+    for i in 0..ant.nostak {
         fzphr += ant.c[i] * sine::sin(ant.z[i] * stheta);
-        i += 1;
     }
     fzphr
 }
 
 // The power of the stacks. The two sines are multiplied first.
+#[tactic(auto, unfolding(crate::specs::Pattern::stack_power))]
 pub fn stack_power(fz: f32, stheta: f32, sphi: f32, cphi: f32) -> f32
     ensures { result ≡ Pattern.stack_power fz stheta sphi cphi }
 {
@@ -105,6 +103,7 @@ pub struct Elevation {
     pub fz: f32,
 }
 
+#[tactic(auto, unfolding(crate::specs::PatternSteps::elevation_of))]
 pub(crate) fn elevation_at(ant: Curtain, theta: f32) -> Elevation
     requires { ant.nostak ≤ 8 }
     ensures { result ≡ Steps.elevation_of ant theta }
@@ -116,6 +115,7 @@ pub(crate) fn elevation_at(ant: Curtain, theta: f32) -> Elevation
 }
 
 // The pattern at an elevation and an azimuth in radians.
+#[tactic(auto, unfolding(crate::specs::PatternSteps::f2_at))]
 pub(crate) fn f2_at(ant: Curtain, e: Elevation, phi: f32) -> f32
     requires { ant.nbs ≤ 14 }
     ensures { result ≡ Steps.f2_at ant e phi }
@@ -129,6 +129,7 @@ pub(crate) fn f2_at(ant: Curtain, e: Elevation, phi: f32) -> f32
 }
 
 // The curtain's unnormalised power pattern at one direction, in radians.
+#[tactic(auto, using(crate::proofs::InSteps::f2_in_steps))]
 pub(crate) fn f2(ant: Curtain, theta: f32, phi: f32) -> f32
     requires { Pattern.Counted ant }
     ensures { result ≡ Pattern.f2 ant theta phi }

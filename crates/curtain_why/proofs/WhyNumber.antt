@@ -9,9 +9,9 @@ use lib.Ieee.Scale.{finite}
 use Rattle.floats.specs.Literals.{ninety}
 use Rattle.floats.specs.Ranges.{between, all_finite}
 use Rattle.model.specs.Limits.{slot, in_band}
+use Rattle.std.proofs.Common.{Some, None}
 use Rattle.slots.specs.Told.{number_of}
 use Rattle.slots.specs.Meaning.{Lowest, Unbroken}
-use Rattle.slots.specs.declared.Why.TheVariants.{Nothing, Broken}
 use Rattle.slots.proofs.Lowest.{told-lowest, told-nothing}
 use Rattle.slots.proofs.Numbers.{some, some_breaks, told-number, some-not-finite, one-slot, two-slots}
 use Rattle.curtain.specs.Answers.{station_finite, band_ok, aim_ok, station_refusal_of}
@@ -43,10 +43,10 @@ module _ (p : List Float) where
       and-true true = refl
       and-true false = refl
 
-  pub why_lowest : {n s : ℕ} → why_of p ≡ Broken n s → Lowest (breaks p) n s
+  pub why_lowest : {n s : ℕ} → why_of p ≡ Some (n, s) → Lowest (breaks p) n s
   unfolding why_of
   why_lowest = told-lowest (breaks p)
 
-  pub why_nothing : why_of p ≡ Nothing → Unbroken (breaks p)
+  pub why_nothing : why_of p ≡ None → Unbroken (breaks p)
   unfolding why_of
   why_nothing = told-nothing (breaks p)

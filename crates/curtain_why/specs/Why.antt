@@ -5,8 +5,7 @@ use Rattle.std.specs.Float.Ieee.Scale.{finite}
 use Rattle.answers.specs.Refusals.{VALUE, BAND, AIM}
 use Rattle.floats.specs.Literals.{ninety}
 use Rattle.floats.specs.Ranges.{between}
-use Rattle.slots.specs.Told.{told}
-use Rattle.slots.specs.declared.Why.{Why}
+use Rattle.slots.specs.Told.{Why, told}
 use Rattle.model.specs.Limits.{slot, in_band}
 
 -- the number x in slot s breaks limit n: operating MHz is in slot 4, design MHz in slot 7, the slew in slot 14

@@ -5,39 +5,41 @@
 // stroke at most (`one_stroke`, proofs/Laws.antt); whether any is a floor says `has_floor`.
 ghost use Rattle.std.specs.Prelude.{◌≡◌, ◌+◌, ◌≤◌, ◌<◌, length};
 ghost use Rattle.labels.specs.Writing.{Put};
-ghost use Rattle.curve.specs.Curve.{beyond, stroke_of, drawn, spot_of, coordinates, piece, step, pieces_to, stroke_text, curve_text, has_floor};
+ghost use Rattle.curve.specs.Curve.{beyond, drawn, spot_of, coordinates, piece, step, pieces_to, stroke_text, curve_text, has_floor};
 
+use answers::Kind;
 use compass::{Point, point_at};
 use dial::radius;
 use labels::push_whole;
 use words::bytes::push_bytes;
 
+// What a path goes through.
+#[derive(Clone, Copy, Debug, PartialEq, Eq)]
+pub enum Stroke {
+    Levels,
+    // What the mirror law folds over, where that is shown apart.
+    Folded,
+    Floors,
+}
+
+#[tactic(auto, unfolding(crate::specs::Curve::beyond))]
 fn is_beyond(v: usize) -> bool
     ensures { result ≡ beyond v }
 {
-    (180 < v) & !(v == 270)
+    180 < v && v != 270
 }
 
-fn stroke(kinds: &[u8; 360], fold: bool, v: usize) -> u8
-    requires { v < 360 }
-    ensures { result ≡ stroke_of kinds.now fold v }
+#[tactic(auto, unfolding(crate::specs::Curve::draws, crate::specs::Curve::drawn))]
+fn is_drawn(kinds: &[Kind; 360], fold: bool, stroke: Stroke, v: usize) -> bool
+    ensures { result ≡ drawn kinds.now fold stroke v }
 {
-    if kinds[v] == 0 {
-        if fold & is_beyond(v) {
-            return 1;
-        }
-        return 0;
+    let kind = kinds[v % 360];
+    let folded = fold && is_beyond(v % 360);
+    match stroke {
+        Stroke::Levels => matches!(kind, Kind::Level) && !folded,
+        Stroke::Folded => matches!(kind, Kind::Level) && folded,
+        Stroke::Floors => matches!(kind, Kind::Floor),
     }
-    if kinds[v] == 1 {
-        return 2;
-    }
-    3
-}
-
-fn is_drawn(kinds: &[u8; 360], fold: bool, k: u8, v: usize) -> bool
-    ensures { result ≡ drawn kinds.now fold k v }
-{
-    stroke(kinds, fold, v % 360) == k
 }
 
 fn spot(numbers: &[u32; 360], peak: u32, v: usize) -> Point
@@ -77,47 +79,45 @@ fn push_step(out: &mut [u8], at: usize, here: bool, earlier: bool, p: Point) -> 
     at
 }
 
-// The pieces of stroke k, azimuth by azimuth.
+// The pieces of a stroke, azimuth by azimuth.
 fn push_pieces(
     out: &mut [u8],
     at: usize,
     numbers: &[u32; 360],
-    kinds: &[u8; 360],
+    kinds: &[Kind; 360],
     fold: bool,
     peak: u32,
-    k: u8,
+    stroke: Stroke,
 ) -> usize
     requires { (at + 17328 ≤ length out.old) × (peak ≤ 200000) }
-    ensures { Put 17328 out.old at (pieces_to (drawn kinds.now fold k) (spot_of numbers.now peak) 361) out.new result }
+    ensures { Put 17328 out.old at (pieces_to (drawn kinds.now fold stroke) (spot_of numbers.now peak) 361) out.new result }
 {
     let mut end = at;
     let mut earlier = false;
-    let mut v: usize = 0;
-    while v < 361 {
-        let here = is_drawn(kinds, fold, k, v);
+    for v in 0..361 {
+        let here = is_drawn(kinds, fold, stroke, v);
         end = push_step(out, end, here, earlier, spot(numbers, peak, v));
         earlier = here;
-        v += 1;
     }
     end
 }
 
-// Inner step: stroke k of a row, after the words that open it.
+// Inner step: a stroke of a row, after the words that open it.
 pub fn push_stroke(
     out: &mut [u8],
     at: usize,
     opening: &[u8],
     numbers: &[u32; 360],
-    kinds: &[u8; 360],
+    kinds: &[Kind; 360],
     fold: bool,
     peak: u32,
-    k: u8,
+    stroke: Stroke,
 ) -> usize
     requires { (at + 17430 ≤ length out.old) × (length opening.now ≤ 90) × (peak ≤ 200000) }
-    ensures { Put 17430 out.old at (stroke_text opening.now numbers.now kinds.now fold peak k) out.new result }
+    ensures { Put 17430 out.old at (stroke_text opening.now numbers.now kinds.now fold peak stroke) out.new result }
 {
     let pieces_at = push_bytes(out, at, opening);
-    let end = push_pieces(out, pieces_at, numbers, kinds, fold, peak, k);
+    let end = push_pieces(out, pieces_at, numbers, kinds, fold, peak, stroke);
     push_bytes(out, end, b"'/>\n")
 }
 
@@ -126,7 +126,7 @@ pub fn push_curve(
     out: &mut [u8],
     at: usize,
     numbers: &[u32; 360],
-    kinds: &[u8; 360],
+    kinds: &[Kind; 360],
     fold: bool,
     peak: u32,
 ) -> usize
@@ -138,7 +138,16 @@ pub fn push_curve(
         at,
         b"<g fill='none' stroke='#000' stroke-width='40' stroke-linecap='round' stroke-linejoin='round'>\n",
     );
-    let folded_at = push_stroke(out, levels_at, b"<path d='", numbers, kinds, fold, peak, 0);
+    let folded_at = push_stroke(
+        out,
+        levels_at,
+        b"<path d='",
+        numbers,
+        kinds,
+        fold,
+        peak,
+        Stroke::Levels,
+    );
     let floors_at = push_stroke(
         out,
         folded_at,
@@ -147,7 +156,7 @@ pub fn push_curve(
         kinds,
         fold,
         peak,
-        1,
+        Stroke::Folded,
     );
     let end = push_stroke(
         out,
@@ -157,20 +166,14 @@ pub fn push_curve(
         kinds,
         fold,
         peak,
-        2,
+        Stroke::Floors,
     );
     push_bytes(out, end, b"</g>\n")
 }
 
 // Whether a floor is among the kinds.
-pub fn has_floor(kinds: &[u8; 360]) -> bool
+pub fn has_floor(kinds: &[Kind; 360]) -> bool
     ensures { result ≡ has_floor kinds.now }
 {
-    let mut found = false;
-    let mut v: usize = 0;
-    while v < 360 {
-        found = found | (kinds[v] == 1);
-        v += 1;
-    }
-    found
+    kinds.iter().any(|kind| matches!(kind, Kind::Floor))
 }

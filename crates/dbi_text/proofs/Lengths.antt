@@ -9,9 +9,8 @@ use Rattle.quoted.specs.Quoted.{quoted}
 use Rattle.answers.specs.Outcome.{refused}
 use Rattle.numerals.proofs.Laws.{numeral-length}
 use Rattle.hundredths.specs.Decimals.{decimals, two_decimals}
-use Rattle.antenna.specs.Gain.{Kind, level, floor, silence}
-use Rattle.text.specs.Lines.{kind_name, refusal_line, printed}
-use Rattle.text.proofs.Laws.{printed-length}
+use Rattle.text.specs.Lines.{refusal_line, printed}
+use Rattle.text.proofs.Laws.{kind_length, printed-length}
 use Rattle.shown.specs.Plate.{Entry}
 use Rattle.dbi_text.specs.Dbi.{entry_line}
 
@@ -24,15 +23,9 @@ unfolding two_decimals quoted
 hundredths_length (pos n) = omega (arith, decimals-length n)
 hundredths_length (negsuc n) = omega (arith, decimals-length (suc n))
 
-pub kind-length : (k : Kind) → length (kind_name k) ≤ 7
-unfolding kind_name
-kind-length level = lit≤ tt
-kind-length floor = lit≤ tt
-kind-length silence = lit≤ tt
-
 pub entry_length : (v : ℕ) (e : Entry) → length (entry_line v e) ≤ 34
 unfolding entry_line quoted
-entry_length v e = simp length-append (omega (arith, numeral-length 10 v, hundredths_length e.1, kind-length e.0))
+entry_length v e = simp length-append (omega (arith, numeral-length 10 v, hundredths_length e.1, kind_length e.0))
 
 pub refusal_length : (n : ℕ) → length (refusal_line n) ≤ 12
 unfolding printed

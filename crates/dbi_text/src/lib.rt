@@ -9,7 +9,7 @@ ghost use Rattle.std.specs.Prelude.{◌≡◌, ◌≤◌, length, take};
 ghost use Rattle.dbi_text.specs.Dbi.{Wrote, text_in};
 
 use lines::push_entries;
-use shown::{Answer, show};
+use shown::show;
 use text::lines::push_refusal;
 
 // Writes the program's output for this input from the buffer's start on, and returns its length; a
@@ -22,10 +22,8 @@ pub fn dbi(input: &[u8], text: &mut [u8]) -> usize
     if text.len() < 12288 {
         return 0;
     }
-    let shown = show(input);
-    let answer = shown.answer;
-    match answer {
-        Answer::Refused(n) => push_refusal(text, 0, n),
-        Answer::Plate => push_entries(text, shown),
+    match show(input) {
+        Err(r) => push_refusal(text, 0, r),
+        Ok(shown) => push_entries(text, shown),
     }
 }

@@ -5,7 +5,6 @@ mod Divisions
 pub mod LongNumbers
 pub mod Runs
 mod Places
-mod Signs
 pub mod Decimals
 mod Words
 mod LeadingDigits

@@ -1,2 +1,3 @@
 -- Public is what other crates cite.
 pub mod Laws
+pub mod OtherKinds

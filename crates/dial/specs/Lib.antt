@@ -1,2 +1,3 @@
 -- The definitions that contracts cite.
+pub mod Kinds
 pub mod Scale

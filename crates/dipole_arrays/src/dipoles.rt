@@ -13,22 +13,22 @@ fn il_count_of(x: f32) -> u32
 }
 
 // The factor of n dipoles in a row, g being the phase from one to the next.
+#[tactic(auto, unfolding(crate::specs::Rows::sine_sum, crate::specs::Rows::cosine_sum, crate::specs::Dipoles::row_factor))]
 fn row_factor(g: f32, n: u32) -> f32
     ensures { result ≡ row_factor g n }
 {
     let mut u1: f32 = 0.0;
     let mut u2: f32 = 0.0;
-    let mut il: u32 = 0;
-    while il < n {
+    for il in 0..n {
         let u12 = g * std::num::nearest_u32_to_f32(il);
         u2 = u2 + sine::sin(u12);
         u1 = u1 + sine::cos(u12);
-        il += 1;
     }
     root::sqrt(u1 * u1 + u2 * u2)
 }
 
 // One dipole: p its electrical half length, c the cosine of p.
+#[tactic(auto, unfolding(crate::specs::Dipoles::dipole_factor))]
 fn dipole_factor(p: f32, c: f32, d: Direction) -> f32
     ensures { result ≡ dipole_factor p c d }
 {
@@ -39,6 +39,7 @@ fn dipole_factor(p: f32, c: f32, d: Direction) -> f32
 }
 
 // The dipole over ground.
+#[tactic(auto, unfolding(crate::specs::Dipoles::ground_factor))]
 fn ground_factor(w: Factors, d: Direction) -> f32
     ensures { result ≡ ground_factor w d }
 {
@@ -49,6 +50,7 @@ fn ground_factor(w: Factors, d: Direction) -> f32
 }
 
 // How much type 1's aperiodic screen reflects.
+#[tactic(auto, unfolding(crate::specs::Dipoles::screen_reflection))]
 fn screen_reflection(fr1: f32, b0: f32) -> f32
     ensures { result ≡ screen_reflection fr1 b0 }
 {
@@ -58,6 +60,7 @@ fn screen_reflection(fr1: f32, b0: f32) -> f32
 }
 
 // Type 1 before its screen.
+#[tactic(auto, unfolding(crate::specs::Dipoles::screen_front))]
 fn screen_front(q2: f32, p11s: f32, d: Direction) -> f32
     ensures { result ≡ screen_front q2 p11s d }
 {
@@ -66,6 +69,7 @@ fn screen_front(q2: f32, p11s: f32, d: Direction) -> f32
 }
 
 // Type 1's screen.
+#[tactic(auto, unfolding(crate::specs::Dipoles::screen_factor))]
 fn screen_factor(k: Constants, d: Direction, behind: bool) -> f32
     ensures { result ≡ screen_factor k d behind }
 {
@@ -77,6 +81,7 @@ fn screen_factor(k: Constants, d: Direction, behind: bool) -> f32
 }
 
 // The tuned reflector of types 2 and 3.
+#[tactic(auto, unfolding(crate::specs::Dipoles::reflector_factor))]
 fn reflector_factor(k: Constants, d: Direction) -> f32
     ensures { result ≡ reflector_factor k d }
 {
@@ -86,6 +91,7 @@ fn reflector_factor(k: Constants, d: Direction) -> f32
 
 // The arms' product: p and c are the dipole's, z2 what stands behind or beside it, pfb the phase
 // from one dipole of the row to the next before the slew, x the row's last il.
+#[tactic(auto, unfolding(crate::specs::Dipoles::array_gain))]
 fn array_gain(w: Factors, d: Direction, p: f32, c: f32, z2: f32, pfb: f32, sl: f32, x: f32) -> f32
     ensures { result ≡ array_gain w d p c z2 pfb sl x }
 {
@@ -97,6 +103,7 @@ fn array_gain(w: Factors, d: Direction, p: f32, c: f32, z2: f32, pfb: f32, sl: f
 }
 
 // Multiband aperiodic reflector dipole array.
+#[tactic(auto, unfolding(crate::specs::Dipoles::gain1))]
 pub fn gain_1(k: Constants, w: Factors, d: Direction, behind: bool) -> f32
     ensures { result ≡ gain1 k w d behind }
 {
@@ -105,6 +112,7 @@ pub fn gain_1(k: Constants, w: Factors, d: Direction, behind: bool) -> f32
 }
 
 // Dual-band centre-fed tuned reflector dipole array.
+#[tactic(auto, unfolding(crate::specs::Dipoles::gain2))]
 pub fn gain_2(k: Constants, w: Factors, d: Direction) -> f32
     ensures { result ≡ gain2 k w d }
 {
@@ -113,6 +121,7 @@ pub fn gain_2(k: Constants, w: Factors, d: Direction) -> f32
 }
 
 // Dual-band end-fed tuned reflector dipole array.
+#[tactic(auto, unfolding(crate::specs::Dipoles::gain3))]
 pub fn gain_3(k: Constants, w: Factors, d: Direction) -> f32
     ensures { result ≡ gain3 k w d }
 {
@@ -122,6 +131,7 @@ pub fn gain_3(k: Constants, w: Factors, d: Direction) -> f32
 }
 
 // Tropical antennas.
+#[tactic(auto, unfolding(crate::specs::Dipoles::gain4))]
 pub fn gain_4(k: Constants, w: Factors, d: Direction) -> f32
     ensures { result ≡ gain4 k w d }
 {

@@ -1,3 +1,2 @@
--- The fold of the azimuth: what `back_from_180` answers, and the mirrored directions of the whole azimuths.
-mod Degrees
+-- The fold of the azimuth: the mirrored directions of the whole azimuths.
 pub mod Fold

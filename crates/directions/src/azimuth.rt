@@ -5,7 +5,7 @@ ghost use Rattle.std.specs.Float.Ieee.{lt, le};
 ghost use Rattle.directions.specs.Azimuth.{back180, in_first, in_second, in_third, quadrant_of, behind_screen, signed, direction_of};
 
 use crate::turn::turned;
-use model::record::Direction;
+use model::record::{Direction, Trig};
 
 // Where the azimuth's sine and cosine stand in the tables, and whether each is negated.
 #[derive(Clone, Copy)]
@@ -23,6 +23,7 @@ fn is_past(low: f32, v: f32, high: f32) -> bool
 }
 
 // The first quadrant, also one turn further.
+#[tactic(auto, unfolding(crate::specs::Azimuth::in_first, floats::specs::Ranges::between))]
 fn in_first(v: f32) -> bool
     ensures { result ≡ in_first v }
 {
@@ -30,6 +31,7 @@ fn in_first(v: f32) -> bool
 }
 
 // The second quadrant, also one turn further.
+#[tactic(auto, unfolding(crate::specs::Azimuth::in_second))]
 fn in_second(v: f32) -> bool
     ensures { result ≡ in_second v }
 {
@@ -37,6 +39,7 @@ fn in_second(v: f32) -> bool
 }
 
 // The third quadrant.
+#[tactic(auto, unfolding(crate::specs::Azimuth::in_third))]
 fn in_third(v: f32) -> bool
     ensures { result ≡ in_third v }
 {
@@ -44,21 +47,16 @@ fn in_third(v: f32) -> bool
 }
 
 // 180 less the whole degrees of x, brought into 0 to 90.
+#[tactic(auto, unfolding(crate::specs::Azimuth::back180))]
 fn back_from_180(x: f32) -> usize
     ensures value { result ≡ back180 x }
     ensures upper_bound { result ≤ 90 }
 {
-    let kv = numeric::float::to_i32(x);
-    if kv < 90 {
-        return 90;
-    }
-    if kv > 180 {
-        return 0;
-    }
-    180 - kv as usize
+    180 - numeric::float::to_i32(x).clamp(90, 180) as usize
 }
 
 // The azimuth's quadrant; all beyond the ranges is in the fourth.
+#[tactic(auto, unfolding(crate::specs::Azimuth::quadrant_of))]
 pub fn quadrant_of(v: f32) -> Quadrant
     ensures value { result ≡ quadrant_of v }
     ensures jv_bound { result.jv ≤ 90 }
@@ -98,22 +96,23 @@ fn with_sign(negated: bool, x: f32) -> f32
     if negated { -x } else { x }
 }
 
-// The direction by the tables a and b of sines and cosines.
+// The direction by the tables of sines and cosines.
 // Inner step: of `pattern`, whose elevation and quadrant are whole degrees of 0 to 90.
-pub fn direction_of<'a>(a: &'a [f32; 91], b: &'a [f32; 91], iu: usize, q: Quadrant) -> Direction
+#[tactic(auto, unfolding(crate::specs::Azimuth::direction_of))]
+pub fn direction_of(t: &Trig, iu: usize, q: Quadrant) -> Direction
     requires { (iu ≤ 90) × (q.jv ≤ 90) }
-    ensures { result ≡ direction_of a.now b.now iu q }
+    ensures { result ≡ direction_of t.now.a t.now.b iu q }
 {
-    let jv = q.jv;
     Direction {
-        a0: a[iu],
-        b0: b[iu],
-        a1: with_sign(q.an, a[jv]),
-        b1: with_sign(q.bn, b[jv]),
+        a0: t.a[iu],
+        b0: t.b[iu],
+        a1: with_sign(q.an, t.a[q.jv]),
+        b1: with_sign(q.bn, t.b[q.jv]),
     }
 }
 
 // Whether type 1's screen lies between the dipoles and the direction.
+#[tactic(auto, unfolding(crate::specs::Azimuth::behind_screen))]
 pub fn behind_screen(v: f32) -> bool
     ensures { result ≡ behind_screen v }
 {

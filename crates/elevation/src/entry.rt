@@ -7,6 +7,7 @@ use model::record::Entry;
 use model::table::{PART, ROW, SIZE};
 
 // The phase for each unit of height.
+#[tactic(auto, unfolding(crate::specs::Entry::delta_of))]
 pub fn delta_of(iant: u32, beta: f32, a0: f32) -> f32
     ensures { result ≡ delta_of iant beta a0 }
 {
@@ -15,6 +16,7 @@ pub fn delta_of(iant: u32, beta: f32, a0: f32) -> f32
 }
 
 // The horizontal one, type 5: au and bu are the phase's sine and cosine.
+#[tactic(auto, unfolding(crate::specs::Entry::horizontal_entry))]
 fn horizontal_entry(r: Reflection, au: f32, bu: f32) -> Entry
     ensures { result ≡ horizontal_entry r au bu }
 {
@@ -27,6 +29,7 @@ fn horizontal_entry(r: Reflection, au: f32, bu: f32) -> Entry
 }
 
 // The vertical one, type 6, which fills two of the four.
+#[tactic(auto, unfolding(crate::specs::Entry::vertical_entry))]
 fn vertical_entry(r: Reflection, au: f32, bu: f32) -> Entry
     ensures { result ≡ vertical_entry r au bu }
 {
@@ -39,6 +42,7 @@ fn vertical_entry(r: Reflection, au: f32, bu: f32) -> Entry
 }
 
 // A type's entry, from the reflection and the element's phase.
+#[tactic(auto, unfolding(crate::specs::Entry::entry_of))]
 pub fn entry_of(iant: u32, r: Reflection, phase: f32) -> Entry
     ensures { result ≡ entry_of iant r phase }
 {
@@ -52,6 +56,7 @@ pub fn entry_of(iant: u32, r: Reflection, phase: f32) -> Entry
 }
 
 // Inner step, for an elevation and an element of the table: the entry of element i at elevation u, put into the table's four parts.
+#[tactic(auto, using(model::proofs::Cells::cell_0, model::proofs::Cells::cell_1, model::proofs::Cells::cell_2, model::proofs::Cells::cell_3), unfolding(crate::specs::Entry::with_entry))]
 pub fn put_entry(t: &mut [f32; SIZE], u: usize, i: usize, e: Entry)
     requires { (u < 91) × (i < 31) }
     ensures { t.new ≡ with_entry t.old u i e }

@@ -15,6 +15,7 @@ pub struct Stack {
 }
 
 // One dipole at the height h1.
+#[tactic(auto, unfolding(crate::specs::Factors::single))]
 fn one_dipole(h1: f32, pfra: f32) -> Stack
     ensures { result ≡ single h1 pfra }
 {
@@ -26,6 +27,7 @@ fn one_dipole(h1: f32, pfra: f32) -> Stack
 }
 
 // n dipoles, the lowest at the height h1, each half a wave above the one below.
+#[tactic(auto, unfolding(crate::specs::Factors::stack_to))]
 fn stacked(h1: f32, pfra: f32, n: u32) -> Stack
     ensures { result ≡ stack_to h1 pfra n }
 {
@@ -41,6 +43,7 @@ fn stacked(h1: f32, pfra: f32, n: u32) -> Stack
 }
 
 // A type's dipoles at the elevation whose sine is a0.
+#[tactic(auto, unfolding(crate::specs::Factors::stack_of))]
 fn stack_of(iant: u32, k: Constants, a0: f32) -> Stack
     ensures { result ≡ stack_of iant k a0 }
 {
@@ -53,6 +56,7 @@ fn stack_of(iant: u32, k: Constants, a0: f32) -> Stack
 }
 
 // The dipoles with their reflection.
+#[tactic(auto, unfolding(crate::specs::Factors::mixed))]
 fn mix(s: Stack, r: Reflection) -> Factors
     ensures { result ≡ mixed s r }
 {
@@ -71,6 +75,7 @@ fn mix(s: Stack, r: Reflection) -> Factors
 }
 
 // The reflection alone, for the rhombic.
+#[tactic(auto, unfolding(crate::specs::Factors::bare))]
 fn bare_reflection(r: Reflection) -> Factors
     ensures { result ≡ bare r }
 {
@@ -85,6 +90,7 @@ fn bare_reflection(r: Reflection) -> Factors
 }
 
 // What the other types leave.
+#[tactic(auto, unfolding(crate::specs::Factors::no_factors))]
 fn no_factors() -> Factors
     ensures { result ≡ no_factors }
 {
@@ -99,6 +105,7 @@ fn no_factors() -> Factors
 }
 
 // The types that are dipoles over ground.
+#[tactic(auto, unfolding(crate::specs::Factors::over_ground))]
 fn over_ground(iant: u32) -> bool
     ensures { result ≡ over_ground iant }
 {
@@ -106,6 +113,7 @@ fn over_ground(iant: u32) -> bool
 }
 
 // At the elevation whose sine and cosine are a0 and b0.
+#[tactic(auto, unfolding(crate::specs::Factors::factors_at))]
 pub fn factors_at(iant: u32, k: Constants, a0: f32, b0: f32) -> Factors
     ensures { result ≡ factors_at iant k a0 b0 }
 {

@@ -12,6 +12,7 @@ pub struct Reflection {
 }
 
 // At the elevation whose sine and cosine are a0 and b0.
+#[tactic(auto, unfolding(crate::specs::Reflection::ref_cof))]
 pub fn refcof(a0: f32, b0: f32, d1: f32, e1: f32) -> Reflection
     ensures { result ≡ ref_cof a0 b0 d1 e1 }
 {

@@ -1,11 +1,12 @@
 -- `least`: what it finds is the first number that passes the test, and it finds none only where there is none. Assumes nothing.
-use mathlib.Core.Path.{◌≡◌, refl, sym, ◌∙◌}
-use mathlib.Core.Logic.{⊎_elim}
+use mathlib.Core.Path.{◌≡◌, refl, sym, subst, ◌∙◌}
+use mathlib.Core.Logic.{⊎_elim, inl, inr}
 use mathlib.Core.Bool.{Bool, true, false, cond, false≢true}
-use Prim.Native.Nat.{ℕ, zero, suc, ◌+◌, ◌-◌, ◌≤◌, ◌<◌}
-use native.Mathlib.Nat.{eq-or-lt_of_le, le_of_suc-le-suc, le_refl, zero-add, suc-add}
+use Prim.Native.Nat.{ℕ, zero, suc, ◌+◌, ◌≤◌, ◌<◌}
+use native.Mathlib.Nat.{eq-or-lt_of_le, le_of_suc-le-suc, le_refl}
 use native.Mathlib.Omega.{arith}
-use Rattle.fields.specs.Least.{or_else, least}
+use Rattle.fields.specs.Least.{or_else, least, FirstOf}
+use native.Mathlib.Numerals.{add-one}
 
 pub by_test : {P : Type 0} (t : Bool) → (t ≡ true → P) → (t ≡ false → P) → P
 by_test true p q = p refl
@@ -33,18 +34,6 @@ module _ (test : ℕ → Bool) where
       (λ (q : i ≡ n). rw q (rw q at (least_here i e t)))
       (λ (l : i < n). least_stays n i (least-found i n e t l))
       (eq-or-lt_of_le (le_of_suc-le-suc h))
-
-  -- among fewer numbers there are no more that pass
-  pub least-fewer : (n : ℕ) {m : ℕ} → m ≤ n → least test n ≡ 0 → least test m ≡ 0
-  least-fewer n {m} h e = go (least test m) refl
-    where
-      stays : (d k : ℕ) → least test m ≡ suc k → least test (d + m) ≡ suc k
-      stays zero k q = rw zero-add q
-      stays (suc d) k q = rw suc-add (least_stays (d + m) k (stays d k q))
-
-      go : (a : ℕ) → least test m ≡ a → a ≡ 0
-      go zero q = refl
-      go (suc k) q = let end : n - m + m ≡ n = omega arith in absurd (omega (arith, e, rw end at (stays (n - m) k q)))
 
   -- ---- what it finds
 
@@ -94,3 +83,12 @@ module _ (test : ℕ → Bool) where
   unfolding least
   least-all zero none = refl
   least-all (suc n) none = least_more n (least-all n (λ i h. none i (omega arith))) (none n (omega arith))
+
+-- what such a search of the code answers, where the calls of its test return what `test` is
+pub least_is : (test : ℕ → Bool) (Returns : ℕ → Bool → Type 0) (n r : ℕ) → ((i : ℕ) (b : Bool) → i < n → Returns (i + 1) b → b ≡ test (suc i)) → FirstOf Returns n r → r ≡ least test n
+least_is test Returns n zero same f = sym (least-all test n (λ i h. sym (same i false h (f.before i h (inl refl)))))
+least_is test Returns n (suc k) same f =
+    let inside : k < n = omega (arith, f.within) in
+    let none : least test k ≡ 0 = least-all test k (λ i h. sym (same i false (omega arith) (f.before i (omega arith) (inr (omega arith))))) in
+    let here : Returns (k + 1) true = subst (λ m. Returns m true) (sym (add-one k)) (f.here (omega arith)) in
+    sym (least-found test k n none (sym (same k true inside here)) inside)

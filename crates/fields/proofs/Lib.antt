@@ -1,5 +1,4 @@
--- Public are the laws that other crates cite: of the first number that passes a test (`Least`), of how long a name is (`Lengths`), of the names and the table (`Laws`). The other serves the proofs here.
+-- Public are the laws that other crates cite: of the first number that passes a test (`Least`), of how long a name is (`Lengths`), of the names and the table (`Laws`).
 pub mod Least
 pub mod Lengths
 pub mod Laws
-mod NameParts

@@ -3,4 +3,3 @@ pub mod Least
 pub mod Names
 pub mod Table
 pub mod Limits
-pub mod Inner

@@ -2,7 +2,8 @@
 use Rattle.std.specs.Prelude.{ℕ, Bool, true, not, cond, ◌&&◌, ◌||◌, eqb, Float}
 use Rattle.std.specs.Float.{binary32}
 use Rattle.std.specs.Float.Ieee.{neg, eq, of_int, to_signed}
-use Rattle.answers.specs.Refusals as refusals
+use Rattle.answers.specs.declared.Refusal.{Refusal}
+use Rattle.answers.specs.declared.Refusal.TheVariants as refusals
 use Rattle.floats.specs.Literals.{literal, two, thirty_one, ninety}
 use Rattle.floats.specs.Ops.{count, +0}
 use Rattle.floats.specs.Ranges.{between, from_to}
@@ -47,9 +48,9 @@ takes kind f number x =
     true)))))))
 
 -- the refusal that a number breaks which the field doesn't take
-unfoldable pub refusal_of : ℕ → ℕ
+unfoldable pub refusal_of : ℕ → Refusal
 refusal_of f =
-    cond (eqb f TYPE) refusals.TYPE
-    (cond (eqb f MHZ || eqb f DESIGN) refusals.BAND
-    (cond (eqb f DIPOLES || eqb f ELEMENTS) refusals.COUNT
-    refusals.AIM))
+    cond (eqb f TYPE) refusals.Type
+    (cond (eqb f MHZ || eqb f DESIGN) refusals.Band
+    (cond (eqb f DIPOLES || eqb f ELEMENTS) refusals.Count
+    refusals.Aim))

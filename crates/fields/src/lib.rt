@@ -7,6 +7,7 @@
 //
 // Proved (proofs/Laws.antt): no two fields have one name (`name_back`), and each number of a field of a
 // kind has a place that it shares with no other (`number-placed`).
+pub mod first;
 pub mod limits;
 pub mod names;
 pub mod table;

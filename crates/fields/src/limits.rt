@@ -3,7 +3,9 @@ ghost use Rattle.std.specs.Prelude.{◌≡◌};
 ghost use Rattle.fields.specs.Limits.{type_number, start_highest, is_whole, reads_design, takes, refusal_of};
 
 use crate::Kind;
+use crate::first::least;
 use crate::names::{DESIGN, DIPOLES, ELEMENTS, ELEVATION, MHZ, SLEW, START, TYPE};
+use answers::Refusal;
 use floats::range::{is_between, is_from_to};
 use model::counts::count_ok;
 use model::limits::in_band;
@@ -13,22 +15,17 @@ use numeric::float::{of_i32, to_i32};
 pub fn type_number(x: f32) -> usize
     ensures { result ≡ type_number x }
 {
-    let mut n: u16 = 0;
-    while n < 9 {
-        n += 1;
-        if x == n as f32 {
-            return n as usize;
-        }
-    }
-    0
+    least(9, |n| x == n as f32)
 }
 
+#[tactic(auto, unfolding(crate::specs::Limits::start_highest))]
 fn start_highest(number: usize) -> f32
     ensures { result ≡ start_highest number }
 {
     if number == 1 { 90.0 } else { 360.0 }
 }
 
+#[tactic(auto, using(floats::proofs::WholeNumbers::back), unfolding(crate::specs::Limits::is_whole))]
 fn is_whole(x: f32) -> bool
     ensures { result ≡ is_whole x }
 {
@@ -36,6 +33,7 @@ fn is_whole(x: f32) -> bool
 }
 
 // Whether set-up reads the design MHz.
+#[tactic(auto, unfolding(crate::specs::Limits::reads_design))]
 fn reads_design(kind: Kind) -> bool
     ensures { result ≡ reads_design kind }
 {
@@ -43,6 +41,7 @@ fn reads_design(kind: Kind) -> bool
 }
 
 // Whether the field takes this number as its first, second ..
+#[tactic(auto, unfolding(crate::specs::Limits::takes))]
 pub fn takes(kind: Kind, f: usize, number: usize, x: f32) -> bool
     ensures { result ≡ takes kind f number x }
 {
@@ -60,17 +59,14 @@ pub fn takes(kind: Kind, f: usize, number: usize, x: f32) -> bool
 }
 
 // The refusal that a number breaks which the field doesn't take.
-pub fn refusal_of(f: usize) -> u8
+#[tactic(auto, unfolding(crate::specs::Limits::refusal_of))]
+pub fn refusal_of(f: usize) -> Refusal
     ensures { result ≡ refusal_of f }
 {
-    if f == TYPE {
-        return answers::TYPE;
+    match f {
+        TYPE => Refusal::Type,
+        MHZ | DESIGN => Refusal::Band,
+        DIPOLES | ELEMENTS => Refusal::Count,
+        _ => Refusal::Aim,
     }
-    if (f == MHZ) | (f == DESIGN) {
-        return answers::BAND;
-    }
-    if (f == DIPOLES) | (f == ELEMENTS) {
-        return answers::COUNT;
-    }
-    answers::AIM
 }

@@ -1,10 +1,11 @@
-// The names of the fields, in the order in which a missing one is told.
-ghost use Rattle.std.specs.Prelude.{◌≡◌, ◌+◌, ◌-◌, ◌≤◌, length, take, drop};
+// The names of the fields, in the order in which a missing one is told. A field goes by its number: the
+// table counts by it, and C callers get it with a mistake.
+ghost use Rattle.std.specs.Prelude.{◌≡◌, ◌+◌, ◌≤◌, length};
 ghost use Rattle.words.specs.Writing.{Wrote};
 ghost use Rattle.lines.specs.Alike.{alike};
 ghost use Rattle.fields.specs.Names.{FIELDS, name_of, field_of};
-ghost use Rattle.fields.specs.Inner.{row_of_names, name_start};
 
+use crate::first::least;
 use lines::same;
 use words::bytes::push_bytes;
 
@@ -63,82 +64,61 @@ pub const ELEVATION: usize = 26;
 // How many fields there are.
 pub const FIELDS: usize = 26;
 
-// Where each name starts in the row of names, which has a blank between each two; and where the next
-// would, behind the last.
-const STARTS: [usize; 27] = [
-    0, 5, 12, 20, 27, 32, 39, 49, 55, 64, 72, 77, 85, 92, 96, 102, 107, 114, 121, 129, 140, 145,
-    156, 165, 169, 176, 186,
-];
-
-fn name_start(i: usize) -> usize
-    requires { i ≤ FIELDS }
-    ensures { result ≡ name_start i }
+// The name of field f; no other number has one.
+#[tactic(auto, unfolding(crate::specs::Names::name_of, crate::specs::Names::names, quoted::specs::Quoted::quoted))]
+pub fn name_of(f: usize) -> &'static [u8]
+    ensures { result.now ≡ name_of f }
 {
-    STARTS[i]
-}
-
-// Whether a part of a text is the word.
-fn is_part(text: &[u8], from: usize, to: usize, word: &[u8]) -> bool
-    requires { (from ≤ to) × (to ≤ length text.now) }
-    ensures { result ≡ alike (take (to - from) (drop from text.now)) word.now }
-{
-    same(&text[from..to], word)
-}
-
-// The names in a row.
-fn row_of_names() -> [u8; 185]
-    ensures { result ≡ row_of_names }
-{
-    *b"type ground dipoles height slew screen reflector start elements lengths boom heights feeder leg angle bays stacks dipole spacing excitation gain gain-ratio gain-mhz mhz design elevation"
+    match f {
+        TYPE => b"type",
+        GROUND => b"ground",
+        DIPOLES => b"dipoles",
+        HEIGHT => b"height",
+        SLEW => b"slew",
+        SCREEN => b"screen",
+        REFLECTOR => b"reflector",
+        START => b"start",
+        ELEMENTS => b"elements",
+        LENGTHS => b"lengths",
+        BOOM => b"boom",
+        HEIGHTS => b"heights",
+        FEEDER => b"feeder",
+        LEG => b"leg",
+        ANGLE => b"angle",
+        BAYS => b"bays",
+        STACKS => b"stacks",
+        DIPOLE => b"dipole",
+        SPACING => b"spacing",
+        EXCITATION => b"excitation",
+        GAIN => b"gain",
+        GAIN_RATIO => b"gain-ratio",
+        GAIN_MHZ => b"gain-mhz",
+        MHZ => b"mhz",
+        DESIGN => b"design",
+        ELEVATION => b"elevation",
+        _ => b"",
+    }
 }
 
 // Whether a word is the name of field f.
 pub fn is_name(f: usize, word: &[u8]) -> bool
     ensures { result ≡ alike (name_of f) word.now }
 {
-    if f == 0 {
-        return word.len() == 0;
-    }
-    if FIELDS < f {
-        return word.len() == 0;
-    }
-    let row = row_of_names();
-    is_part(&row, name_start(f - 1), name_start(f) - 1, word)
+    same(name_of(f), word)
 }
 
 // The field that a word names, 0 where it names none.
 pub fn field_of(word: &[u8]) -> usize
     ensures { result ≡ field_of word.now }
 {
-    let mut f: usize = 0;
-    while f < FIELDS {
-        f += 1;
-        if is_name(f, word) {
-            return f;
-        }
-    }
-    0
-}
-
-// A part of a text.
-fn push_part(out: &mut [u8], at: usize, text: &[u8], from: usize, to: usize) -> usize
-    requires { (from ≤ to) × (to ≤ length text.now) × (at + (to - from) ≤ length out.old) }
-    ensures { Wrote out.old at (take (to - from) (drop from text.now)) out.new result }
-{
-    push_bytes(out, at, &text[from..to])
+    least(FIELDS, |f| is_name(f, word))
 }
 
 // Inner step: the name of field f.
+#[tactic(auto, using(crate::proofs::Lengths::name_length))]
 pub fn push_name(out: &mut [u8], at: usize, f: usize) -> usize
     requires { at + 10 ≤ length out.old }
     ensures { Wrote out.old at (name_of f) out.new result }
 {
-    if f == 0 {
-        return at;
-    }
-    if FIELDS < f {
-        return at;
-    }
-    let row = row_of_names();
-    push_part(out, at, &row, name_start(f - 1), name_start(f) - 1)
+    push_bytes(out, at, name_of(f))
 }

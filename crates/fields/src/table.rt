@@ -1,7 +1,8 @@
 // Which kinds have a field, and where its numbers go.
 ghost use Rattle.std.specs.Prelude.{◌≡◌, ◌≤◌};
-ghost use Rattle.fields.specs.Table.{LAST, is_maximum_gain, mode_of, row_number, in_kind, number_in, row_of, row_at, has_field, count_of, first_place, source_of};
+ghost use Rattle.fields.specs.Table.{LAST, is_maximum_gain, mode_of, row_number, in_kind, number_in, is_row_of, is_row_at, row_of, row_at, has_field, count_of, first_place, source_of};
 
+use crate::first::least;
 use crate::names::{
     ANGLE, BAYS, BOOM, DESIGN, DIPOLE, DIPOLES, ELEMENTS, ELEVATION, EXCITATION, FEEDER, GAIN,
     GAIN_MHZ, GAIN_RATIO, GROUND, HEIGHT, HEIGHTS, LEG, LENGTHS, MHZ, REFLECTOR, SCREEN, SLEW,
@@ -27,7 +28,8 @@ pub struct Source {
 }
 
 // The rows: field, from, to, first, count; none is row 0. A field whose number goes to two places has
-// two rows, the slot's first. The type is a field of every card.
+// two rows, the slot's first. The type is a field of every card. Numbers, and no `Row`s: a constant calls
+// no function, and forty literals with five names each make no table.
 const ROWS: [[usize; 5]; 40] = [
     [0, 0, 0, 0, 0],
     [TYPE, 0, CURTAIN, 1, 1],
@@ -74,21 +76,23 @@ const ROWS: [[usize; 5]; 40] = [
 // The last row's number.
 const LAST: usize = 39;
 
+#[tactic(auto, unfolding(crate::specs::Table::rows, crate::specs::Table::row_number))]
 fn nth_row(r: usize) -> Row
     requires { r ≤ LAST }
     ensures { result ≡ row_number r }
 {
-    let cells = ROWS[r];
+    let [field, from, to, first, count] = ROWS[r];
     Row {
-        field: cells[0],
-        from: cells[1],
-        to: cells[2],
-        first: cells[3],
-        count: cells[4],
+        field,
+        from,
+        to,
+        first,
+        count,
     }
 }
 
 // Whether a field tells the maximum gain.
+#[tactic(auto, unfolding(crate::specs::Table::is_maximum_gain))]
 pub fn is_maximum_gain(f: usize) -> bool
     ensures { result ≡ is_maximum_gain f }
 {
@@ -96,19 +100,19 @@ pub fn is_maximum_gain(f: usize) -> bool
 }
 
 // The mode of a card whose maximum gain is told by this field.
+#[tactic(auto, unfolding(crate::specs::Table::mode_of))]
 pub fn mode_of(f: usize) -> u8
     ensures { result ≡ mode_of f }
 {
-    if f == GAIN_RATIO {
-        return 1;
+    match f {
+        GAIN_RATIO => 1,
+        GAIN_MHZ => 2,
+        _ => 0,
     }
-    if f == GAIN_MHZ {
-        return 2;
-    }
-    0
 }
 
 // Whether a row is one of this kind.
+#[tactic(auto, unfolding(crate::specs::Table::in_kind))]
 fn in_kind(kind: Kind, row: Row) -> bool
     ensures { result ≡ in_kind kind row }
 {
@@ -118,6 +122,7 @@ fn in_kind(kind: Kind, row: Row) -> bool
 }
 
 // Which of a row's numbers, from 1, goes to place p; 0 where none does.
+#[tactic(auto, unfolding(crate::specs::Table::number_in))]
 fn number_in(row: Row, p: usize) -> usize
     ensures { result ≡ number_in row p }
 {
@@ -128,36 +133,37 @@ fn number_in(row: Row, p: usize) -> usize
     if i < row.count { i + 1 } else { 0 }
 }
 
+fn is_row_of(kind: Kind, f: usize, r: usize) -> bool
+    requires { r ≤ LAST }
+    ensures { result ≡ is_row_of kind f r }
+{
+    let row = nth_row(r);
+    in_kind(kind, row) & (row.field == f)
+}
+
+fn is_row_at(kind: Kind, p: usize, r: usize) -> bool
+    requires { r ≤ LAST }
+    ensures { result ≡ is_row_at kind p r }
+{
+    let row = nth_row(r);
+    in_kind(kind, row) & (number_in(row, p) != 0)
+}
+
 // The first row of a kind with this field, 0 where there is none.
 fn row_of(kind: Kind, f: usize) -> usize
     ensures { (result ≡ row_of kind f) × (result ≤ LAST) }
 {
-    let mut r: usize = 0;
-    while r < LAST {
-        r += 1;
-        let it = nth_row(r);
-        if in_kind(kind, it) & (it.field == f) {
-            return r;
-        }
-    }
-    0
+    least(LAST, |r| is_row_of(kind, f, r))
 }
 
 // The first row of a kind with a number for this place, 0 where there is none.
 fn row_at(kind: Kind, p: usize) -> usize
     ensures { (result ≡ row_at kind p) × (result ≤ LAST) }
 {
-    let mut r: usize = 0;
-    while r < LAST {
-        r += 1;
-        let it = nth_row(r);
-        if in_kind(kind, it) & (number_in(it, p) != 0) {
-            return r;
-        }
-    }
-    0
+    least(LAST, |r| is_row_at(kind, p, r))
 }
 
+#[tactic(auto, unfolding(crate::specs::Table::has_field))]
 pub fn has_field(kind: Kind, f: usize) -> bool
     ensures { result ≡ has_field kind f }
 {
@@ -165,6 +171,7 @@ pub fn has_field(kind: Kind, f: usize) -> bool
 }
 
 // How many numbers a field has.
+#[tactic(auto, unfolding(crate::specs::Table::count_of))]
 pub fn count_of(kind: Kind, f: usize) -> usize
     ensures { result ≡ count_of kind f }
 {
@@ -172,6 +179,7 @@ pub fn count_of(kind: Kind, f: usize) -> usize
 }
 
 // The place of its first number; the others go to the places behind it.
+#[tactic(auto, unfolding(crate::specs::Table::first_place))]
 pub fn first_place(kind: Kind, f: usize) -> usize
     ensures { result ≡ first_place kind f }
 {
@@ -179,6 +187,7 @@ pub fn first_place(kind: Kind, f: usize) -> usize
 }
 
 // Which number stands in a place.
+#[tactic(auto, unfolding(crate::specs::Table::source_of))]
 pub fn source_of(kind: Kind, p: usize) -> Source
     ensures { result ≡ source_of kind p }
 {

@@ -10,8 +10,11 @@ use borrow.Author.Tests.{ltb-true, ltb-false, le-ltb, eqb-false}
 use lib.Dec.{ltb, eqb}
 use lib.IntN.{ℤ, pos, negsuc, neg_ℤ, ◌+ℤ◌, +ℤ_comm, neg_ℤ-+ℤ, neg_ℤ-neg_ℤ}
 use lib.ListN.{get_or}
+use Rattle.answers.specs.declared.Kind.{Kind}
+use Rattle.answers.specs.declared.Kind.TheVariants as kind
 use Rattle.hundredths.specs.Raised.{lowered}
 use Rattle.hundredths.proofs.Raised.{lowered-difference}
+use Rattle.dial.specs.Kinds.{is_level}
 use Rattle.dial.specs.Scale.{better_of, peak_azimuth}
 use Rattle.figures.specs.Figures.{behind_to, behind_of, difference_of, in_beam, in_row, steps_of, beam_of, leads_at, count_to, leads_of}
 
@@ -179,12 +182,12 @@ difference_below a b h =
 -- ---- who leads
 
 -- two rows never lead each other at the same azimuth
-module _ (a ka b kb : List ℕ) where
+module _ (a : List ℕ) (ka : List Kind) (b : List ℕ) (kb : List Kind) where
   pub leads-apart : (v : ℕ) → leads_at a ka b v ≡ true → leads_at b kb a v ≡ false
   unfolding leads_at
   leads-apart v t =
-      let h : get_or b v 0 < get_or a v 0 = ltb-true (get_or b v 0) (get_or a v 0) (second (eqb (get_or ka v 0) 0) (ltb (get_or b v 0) (get_or a v 0)) t) in
-      rw (le-ltb (get_or a v 0) (get_or b v 0) (omega arith)) (none (eqb (get_or kb v 0) 0))
+      let h : get_or b v 0 < get_or a v 0 = ltb-true (get_or b v 0) (get_or a v 0) (second (is_level (get_or ka v kind.Level)) (ltb (get_or b v 0) (get_or a v 0)) t) in
+      rw (le-ltb (get_or a v 0) (get_or b v 0) (omega arith)) (none (is_level (get_or kb v kind.Level)))
     where
       second : (p q : Bool) → (p && q) ≡ true → q ≡ true
       second true q t = t

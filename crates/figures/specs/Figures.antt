@@ -1,7 +1,10 @@
 -- Issue 27, "`--compare A B` answers the buyer's questions": what lies behind a mast, how wide its beam is, where it leads another. A row is 360 numbers, hundredths of dBi raised by 100,000: 3 dB are 300. Definitions only.
 use Rattle.std.specs.Prelude.{ℕ, zero, suc, ◌+◌, ◌-◌, ◌%◌, Bool, cond, ◌&&◌, List, ◌++◌, ltb, leb, eqb, ℤ, ◌-ℤ◌, get_or}
+use Rattle.answers.specs.declared.Kind.{Kind}
+use Rattle.answers.specs.declared.Kind.TheVariants as kind
 use Rattle.hundredths.specs.Decimals.{two_decimals}
 use Rattle.hundredths.specs.Raised.{lowered}
+use Rattle.dial.specs.Kinds.{is_level}
 use Rattle.dial.specs.Scale.{better_of, peak_azimuth, peak_of}
 
 -- ---- "what lies behind"
@@ -49,13 +52,13 @@ beam_of numbers = cond (eqb (steps_of numbers 1) 359) 360 (steps_of numbers 1 + 
 -- ---- "how many azimuths each leads in"
 
 -- a level that is greater than the other's number: a floor and a silence lead nowhere
-unfoldable pub leads_at : List ℕ → List ℕ → List ℕ → ℕ → Bool
-leads_at first kinds second v = eqb (get_or kinds v 0) 0 && ltb (get_or second v 0) (get_or first v 0)
+unfoldable pub leads_at : List ℕ → List Kind → List ℕ → ℕ → Bool
+leads_at first kinds second v = is_level (get_or kinds v kind.Level) && ltb (get_or second v 0) (get_or first v 0)
 
 -- how many of the numbers below n pass a test
 unfoldable pub count_to : (ℕ → Bool) → ℕ → ℕ
 count_to test zero = 0
 count_to test (suc n) = count_to test n + cond (test n) 1 0
 
-unfoldable pub leads_of : List ℕ → List ℕ → List ℕ → ℕ
+unfoldable pub leads_of : List ℕ → List Kind → List ℕ → ℕ
 leads_of first kinds second = count_to (leads_at first kinds second) 360

@@ -5,12 +5,13 @@
 // beam is at 3 dB (`beam_of`; at most 360: `beam_most`), and in how many azimuths one row leads another
 // (`leads_of`; two rows never lead each other at once: `leads-apart`, `leads-sum`). Definitions in
 // specs/Figures.antt, laws in proofs/Laws.antt. Rows are 360 raised hundredths as crate `hundredths` has
-// them, with kinds, 0 a level, 1 a floor, 2 a silence; all is said of any numbers.
+// them, with kinds; all is said of any numbers.
 ghost use Rattle.std.specs.Prelude.{◌≡◌, ◌+◌, ◌-◌, ◌≤◌, ◌<◌, leb, length};
 ghost use Rattle.dial.specs.Scale.{peak_azimuth};
 ghost use Rattle.labels.specs.Writing.{Put};
 ghost use Rattle.figures.specs.Figures.{behind_of, difference, steps_of, beam_of, leads_at, leads_of};
 
+use answers::Kind;
 use dial::{better, peak_azimuth};
 use hundredths::decimals::push_hundredths;
 use words::bytes::{push, push_bytes};
@@ -19,11 +20,9 @@ use words::bytes::{push, push_bytes};
 pub fn behind(numbers: &[u32; 360]) -> usize
     ensures { (result ≡ behind_of numbers.now) × (result < 360) }
 {
-    let mut best: usize = 90;
-    let mut v: usize = 91;
-    while v < 271 {
+    let mut best = 90;
+    for v in 91..271 {
         best = better(numbers, best, v);
-        v += 1;
     }
     best
 }
@@ -45,10 +44,7 @@ pub fn push_difference(out: &mut [u8], at: usize, words: &[u8], a: u32, b: u32) 
 fn is_near(peak: u32, number: u32) -> bool
     ensures { result ≡ leb (peak - number) 300 }
 {
-    if peak <= number {
-        return true;
-    }
-    peak - number <= 300
+    peak.saturating_sub(number) <= 300
 }
 
 // How many steps one can go from the peak within 3 dB, 359 at most.
@@ -58,18 +54,17 @@ fn steps(numbers: &[u32; 360], start: usize, turn: usize) -> usize
 {
     let peak = numbers[start];
     let mut v = (start + turn) % 360;
-    let mut n: usize = 0;
-    while n < 359 {
+    for n in 0..359 {
         if !is_near(peak, numbers[v]) {
             return n;
         }
         v = (v + turn) % 360;
-        n += 1;
     }
-    n
+    359
 }
 
 // The width of the beam at 3 dB, in degrees.
+#[tactic(auto, unfolding(crate::specs::Figures::beam_of))]
 pub fn beam(numbers: &[u32; 360]) -> usize
     ensures { (result ≡ beam_of numbers.now) × (result ≤ 360) }
 {
@@ -82,27 +77,24 @@ pub fn beam(numbers: &[u32; 360]) -> usize
 }
 
 // Inner step: whether the first row, with its kinds, leads the second at an azimuth.
-pub fn leads_at(first: &[u32; 360], kinds: &[u8; 360], second: &[u32; 360], v: usize) -> bool
+#[tactic(auto, unfolding(crate::specs::Figures::leads_at))]
+pub fn leads_at(first: &[u32; 360], kinds: &[Kind; 360], second: &[u32; 360], v: usize) -> bool
     requires { v < 360 }
     ensures { result ≡ leads_at first.now kinds.now second.now v }
 {
-    if kinds[v] != 0 {
-        return false;
-    }
-    second[v] < first[v]
+    matches!(kinds[v], Kind::Level) && second[v] < first[v]
 }
 
 // In how many azimuths the first row, with its kinds, leads the second.
-pub fn leads(first: &[u32; 360], kinds: &[u8; 360], second: &[u32; 360]) -> usize
+pub fn leads(first: &[u32; 360], kinds: &[Kind; 360], second: &[u32; 360]) -> usize
     ensures { (result ≡ leads_of first.now kinds.now second.now) × (result ≤ 360) }
 {
-    let mut n: usize = 0;
-    let mut v: usize = 0;
-    while v < 360 {
+    // a loop: of `(0..360).filter(..).count()` the search unfolds all 360 numbers, and gives up
+    let mut n = 0;
+    for v in 0..360 {
         if leads_at(first, kinds, second, v) {
             n += 1;
         }
-        v += 1;
     }
     n
 }

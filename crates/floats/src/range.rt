@@ -3,6 +3,7 @@ ghost use Rattle.std.specs.Prelude.{◌≡◌};
 ghost use Rattle.floats.specs.Ranges.{between, from_to, all_finite};
 
 // low <= x <= high.
+#[tactic(auto, unfolding(crate::specs::Ranges::between))]
 pub fn is_between(x: f32, low: f32, high: f32) -> bool
     ensures { result ≡ between x low high }
 {
@@ -10,6 +11,7 @@ pub fn is_between(x: f32, low: f32, high: f32) -> bool
 }
 
 // low <= x < high.
+#[tactic(auto, unfolding(crate::specs::Ranges::from_to))]
 pub fn is_from_to(x: f32, low: f32, high: f32) -> bool
     ensures { result ≡ from_to x low high }
 {
@@ -20,11 +22,5 @@ pub fn is_from_to(x: f32, low: f32, high: f32) -> bool
 pub fn all_finite(s: &[f32]) -> bool
     ensures { result ≡ all_finite s.now }
 {
-    let mut ok = true;
-    let mut i: usize = 0;
-    while i < s.len() {
-        ok = ok & numeric::float::is_finite(s[i]);
-        i += 1;
-    }
-    ok
+    s.iter().all(|x| numeric::float::is_finite(*x))
 }

@@ -1,7 +1,7 @@
 -- Issue 27: "The half that is folded (where the mirror law holds) can be shown apart with `--fold`, so that a class sees what is worked out and what is folded over." Definitions only.
 use Rattle.std.specs.Prelude.{ℕ, ◌-◌, ◌<◌, ◌≡◌, true, List, pos, length, get_or}
 use Rattle.answers.specs.Outcome.{accepted}
-use Rattle.antenna.specs.Gain.{level}
+use Rattle.answers.specs.declared.Kind.TheVariants.{Level}
 use Rattle.heading.specs.Heading.{heading_of}
 use Rattle.heading.specs.declared.Heading.{Heading}
 use Rattle.shown.specs.Plate.{Entry}
@@ -9,7 +9,7 @@ use Rattle.shown.specs.Shown.{shown_of}
 
 -- the entry at an azimuth, of a plate that has one there
 abbrev pub entry : List Entry → ℕ → Entry
-entry entries v = get_or entries v (level, pos 0)
+entry entries v = get_or entries v (Level, pos 0)
 
 -- the entry at each azimuth v but 90 and 270 is the entry at 360 - v, kind and number
 abbrev pub MirrorImage : List Entry → Type 0

@@ -7,7 +7,8 @@ use lib.ListN.{length, length-append}
 use lib.Ieee.{Float}
 use Rattle.floats.specs.Ops.{at}
 use Rattle.answers.specs.Outcome.{Outcome, refused, accepted}
-use Rattle.antenna.specs.Gain.{Kind, gain_of}
+use Rattle.answers.specs.declared.Kind.{Kind}
+use Rattle.antenna.specs.Gain.{gain_of}
 use Rattle.antenna.specs.declared.record.Antenna.{Antenna}
 use Rattle.gains_calls.specs.Gains.{gain_words, gains_to}
 

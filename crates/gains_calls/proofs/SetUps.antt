@@ -1,4 +1,4 @@
--- Set-up's answer by its cases, and the words that both calls begin with. Assumes nothing.
+-- Set-up's refusals, and the words that both calls begin with. Assumes nothing.
 use mathlib.Core.Path.{◌≡◌, refl}
 use mathlib.Core.List.{List, [], ◌∷◌}
 use mathlib.Core.Bool.{Bool, true, false, cond}
@@ -17,22 +17,12 @@ use Rattle.ground.specs.Table.{table_of}
 use Rattle.parameters.specs.Limits.{start_of, refusal_of}
 use Rattle.search.specs.Search.{gainorm_of}
 use Rattle.antenna.specs.TableSum.{table_sum}
-use Rattle.antenna.specs.SetUp.{model_of, search_refused, accepted_of, found, searched, set_up_of, set_up_answer}
+use Rattle.antenna.specs.SetUp.{model_of, search_refused, accepted_of, found, searched, set_up_of}
 use Rattle.antenna.specs.declared.record.Antenna.{Antenna}
 use Rattle.search.specs.declared.record.Peak.{Peak}
-use Rattle.antenna.specs.declared.setup.Prepared.TheVariants.{Ready, Refused}
-use Rattle.antenna.specs.declared.setup.SetUp.{SetUp}
 use Rattle.antenna_laws.proofs.ReadingCount.{readings-fit}
 use Rattle.packed.specs.Lists.{bits}
 use Rattle.gains_calls.specs.Search.{search_words}
-
-pub ready : (s : SetUp) (n : ℕ) → s.answer ≡ Ready n → set_up_answer s ≡ accepted (s.antenna, n)
-unfolding set_up_answer
-ready s n e = rw e
-
-pub turned_away : (s : SetUp) (n : ℕ) → s.answer ≡ Refused n → set_up_answer s ≡ refused n
-unfolding set_up_answer
-turned_away s n e = rw e
 
 by_tests : {A : Type 0} (number n : ℕ) (b r : Bool) (x : A) → ltb 0 number ≡ b → cond b (refused number) (cond r (refused PATTERN) (accepted x)) ≡ refused n → 0 < n
 by_tests number n true r x e h = let k : number ≡ n = cc in omega (arith, k, ltb-true 0 number e)

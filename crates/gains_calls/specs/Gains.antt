@@ -5,16 +5,18 @@ use Rattle.std.specs.Float.Ieee.{to_bits}
 use Rattle.floats.specs.Ops.{at}
 use Rattle.model.specs.Table.{table_size, blank_table}
 use Rattle.answers.specs.Outcome.{Outcome, refused, accepted}
-use Rattle.antenna.specs.Gain.{Kind, level, floor, silence, gain_of}
+use Rattle.answers.specs.declared.Kind.{Kind}
+use Rattle.answers.specs.declared.Kind.TheVariants.{Level, Floor, Silence}
+use Rattle.antenna.specs.Gain.{gain_of}
 use Rattle.antenna.specs.SetUp.{set_up_of, lent_after}
 use Rattle.antenna.specs.declared.record.Antenna.{Antenna}
 use Rattle.packed.specs.Lists.{Left, left}
 use Rattle.gains_calls.specs.Search.{search_words}
 
 unfoldable pub kind_number : Kind → ℕ
-kind_number level = 0
-kind_number floor = 1
-kind_number silence = 2
+kind_number Level = 0
+kind_number Floor = 1
+kind_number Silence = 2
 
 -- a gain in two words: its kind's number and its bits; or 3 and the refusal's number
 unfoldable pub gain_words : Outcome (Kind × Float) → List ℕ

@@ -14,6 +14,7 @@ use model::table::{SIZE, blank_table};
 use model::types::log_periodic;
 
 // Inner step of set-up, the tables by elevation: those of every type but 5 and 6, which leave 0.
+#[tactic(auto, unfolding(crate::specs::Ground::ground_to, floats::specs::Filled::filled_to, crate::specs::Ground::ground_of))]
 pub fn ground_of(iant: u32, k: Constants, t: Trig) -> Ground
     ensures { result ≡ ground_of iant k t }
 {
@@ -25,8 +26,7 @@ pub fn ground_of(iant: u32, k: Constants, t: Trig) -> Ground
         w9: [0.0; 91],
         w10: [0.0; 91],
     };
-    let mut u: usize = 0;
-    while u < 91 {
+    for u in 0..91 {
         let f = elevation::factors::factors_at(iant, k, t.a[u], t.b[u]);
         g.w3[u] = f.w3;
         g.w4[u] = f.w4;
@@ -34,22 +34,19 @@ pub fn ground_of(iant: u32, k: Constants, t: Trig) -> Ground
         g.w6[u] = f.w6;
         g.w9[u] = f.w9;
         g.w10[u] = f.w10;
-        u += 1;
     }
     g
 }
 
 // The active elements at elevation u, where the reflection is r and the phase delta for each
 // unit of height.
+#[tactic(auto, using(model::proofs::ActiveElements::active_below), unfolding(crate::specs::Table::row_to))]
 fn fill_row(t: &mut [f32; SIZE], u: usize, iant: u32, r: Reflection, delta: f32, elements: Elements)
     requires { (u < 91) × (elements.nat ≤ 30) × (elements_ok elements.iek elements.nat ≡ true) }
     ensures { t.new ≡ row_to (λ (i : ℕ). entry_of iant r (delta ⊗ get_or elements.h i nan)) elements.iek u t.old elements.nat }
 {
-    let nat = elements.nat;
-    let mut k: usize = 0;
-    while k < nat {
-        k += 1;
-        let i = elements.iek[k];
+    for k in 0..elements.nat {
+        let i = elements.iek[k + 1];
         let w = elevation::entry::entry_of(iant, r, delta * elements.h[i]);
         elevation::entry::put_entry(t, u, i, w);
     }
@@ -57,24 +54,24 @@ fn fill_row(t: &mut [f32; SIZE], u: usize, iant: u32, r: Reflection, delta: f32,
 
 // All elevations. The source works the reflection out anew for each element; it is the same for
 // all of them.
+#[tactic(auto, using(model::proofs::ActiveElements::few_active, model::proofs::ActiveElements::active_named), unfolding(crate::specs::Table::elevations_to))]
 fn fill_elevations(t: &mut [f32; SIZE], m: Model)
     requires { counts_ok m ≡ true }
     ensures { t.new ≡ elevations_to m t.old 91 }
 {
     let trig = m.trig;
     let elements = m.elements;
-    let mut u: usize = 0;
-    while u < 91 {
+    for u in 0..91 {
         let a0 = trig.a[u];
         let r = elevation::reflection::refcof(a0, trig.b[u], m.constants.d1, m.constants.e1);
         let delta = elevation::entry::delta_of(m.iant, m.constants.beta, a0);
         fill_row(t, u, m.iant, r, delta, elements);
-        u += 1;
     }
 }
 
 // Inner step of set-up, for a record whose counts it has accepted: the flat table of the
 // log-periodic types, blank for all others.
+#[tactic(auto, unfolding(crate::specs::Table::table_of))]
 pub fn table_of(m: Model) -> [f32; SIZE]
     requires { counts_ok m ≡ true }
     ensures { result ≡ table_of m }

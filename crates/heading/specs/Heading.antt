@@ -14,8 +14,6 @@ use Rattle.maxgain.specs.Maximum.{set_max_gain}
 use Rattle.request.specs.Request.{and_then, station_in}
 use Rattle.heading.specs.Mirrored.{mirrored_of}
 use Rattle.heading.specs.declared.Heading.{Heading}
-use Rattle.heading.specs.declared.Answer.{Answer}
-use Rattle.heading.specs.declared.Answer.TheVariants.{Told, Refused}
 
 -- an elevation without decimals; that of a plate has none
 unfoldable pub degrees_of : Float → ℕ
@@ -43,8 +41,3 @@ read_heading input s =
 
 unfoldable pub heading_of : List ℕ → Outcome Heading
 heading_of input = and_then (station_in input) (read_heading input)
-
--- what each case of the answer says
-unfoldable pub heading_answer : Answer → Outcome Heading
-heading_answer (Told h) = accepted h
-heading_answer (Refused n) = refused n

@@ -7,20 +7,22 @@
 mod mirror;
 
 ghost use Rattle.std.specs.Prelude.{◌≡◌, length};
-ghost use Rattle.heading.specs.Heading.{degrees_of, headed, set_heading, station_heading, read_heading, heading_of, heading_answer};
+ghost use Rattle.answers.specs.Outcome.{outcome};
+ghost use Rattle.heading.specs.Heading.{headed, set_heading, station_heading, read_heading, heading_of};
 
+use answers::Refusal;
+use floats::rounding::natural;
 use hundredths::rounding::{in_span, raised};
-use maxgain::maximum;
-use maxgain::maximum::setmaxgain;
+use maxgain::setmaxgain;
 use mirror::is_mirrored;
 use model::types::jant;
-use numeric::float::to_i32;
-use station::{Station, Verdict};
+use request::station_of;
+use station::Station;
 use words::big_endian::float_at;
 
 // The type, 1 to 9, or 0 for the curtain; MHz in raised hundredths (crate `hundredths`); the elevation
 // in degrees; whether the gains beyond 180 degrees are those before it, mirrored.
-#[derive(Clone, Copy)]
+#[derive(Clone, Copy, Debug, PartialEq, Eq)]
 pub struct Heading {
     pub antenna: u32,
     pub mhz: u32,
@@ -28,66 +30,45 @@ pub struct Heading {
     pub mirrored: bool,
 }
 
-// The answer: a heading, or the number of the refusal.
-#[derive(Clone, Copy)]
-pub enum Answer {
-    Told(Heading),
-    Refused(u8),
-}
-
-// The elevation without decimals, which a plate's own has none of.
-fn whole_degrees(u: f32) -> u32
-    ensures { result ≡ degrees_of u }
-{
-    let n = to_i32(u);
-    if n < 0 { 0 } else { n as u32 }
-}
-
 // The heading, or the refusal of MHz over 1,000.
-fn tell_spanned(antenna: u32, mhz: f32, elevation: f32, mirrored: bool) -> Answer
-    ensures { heading_answer result ≡ headed antenna mhz elevation mirrored }
+#[tactic(auto, unfolding(crate::specs::Heading::headed, crate::specs::Heading::degrees_of))]
+fn tell_spanned(antenna: u32, mhz: f32, elevation: f32, mirrored: bool) -> Result<Heading, Refusal>
+    ensures { outcome result ≡ headed antenna mhz elevation mirrored }
 {
     if !in_span(mhz) {
-        return Answer::Refused(answers::SPAN);
+        return Err(Refusal::Span);
     }
-    let heading = Heading {
+    Ok(Heading {
         antenna,
         mhz: raised(mhz),
-        elevation: whole_degrees(elevation),
+        elevation: natural(elevation),
         mirrored,
-    };
-    Answer::Told(heading)
+    })
 }
 
 // Of the parameters as set-up gets them.
-fn tell_set(parm: [f32; 20], elevation: f32) -> Answer
-    ensures { heading_answer result ≡ set_heading parm elevation }
+#[tactic(auto, unfolding(crate::specs::Heading::set_heading))]
+fn tell_set(parm: [f32; 20], elevation: f32) -> Result<Heading, Refusal>
+    ensures { outcome result ≡ set_heading parm elevation }
 {
     let iant = jant(parm[1]);
-    let mirrored = is_mirrored(iant, parm[9]);
-    tell_spanned(iant, parm[4], elevation, mirrored)
+    tell_spanned(iant, parm[4], elevation, is_mirrored(iant, parm[9]))
 }
 
 // Of a station: `setmaxgain`, then the parameters that it leaves.
-fn tell_station(s: Station, mhz: f32, design: f32, elevation: f32) -> Answer
-    ensures { heading_answer result ≡ station_heading s mhz design elevation }
+#[tactic(auto, unfolding(crate::specs::Heading::station_heading, request::specs::Request::and_then))]
+fn tell_station(s: Station, mhz: f32, design: f32, elevation: f32) -> Result<Heading, Refusal>
+    ensures { outcome result ≡ station_heading s mhz design elevation }
 {
-    let gainmax = s.gainmax;
-    let gainmaxb = s.gainmaxb;
-    let given = s.parm;
-    let found = setmaxgain(s.mode, given, gainmax, gainmaxb, mhz, design);
-    let answer = found.answer;
-    let parm = found.parm;
-    match answer {
-        maximum::Answer::Refused(n) => Answer::Refused(n),
-        maximum::Answer::Gain(_) => tell_set(parm, elevation),
-    }
+    let found = setmaxgain(s, mhz, design)?;
+    tell_set(found.parm, elevation)
 }
 
 // Of the record that was read.
-fn tell_read(input: &[u8], s: Station) -> Answer
+#[tactic(auto, unfolding(crate::specs::Heading::read_heading))]
+fn tell_read(input: &[u8], s: Station) -> Result<Heading, Refusal>
     requires { length input.now ≡ 237 }
-    ensures { heading_answer result ≡ read_heading input.now s }
+    ensures { outcome result ≡ read_heading input.now s }
 {
     let mhz = float_at(input, 225);
     let design = float_at(input, 229);
@@ -95,22 +76,14 @@ fn tell_read(input: &[u8], s: Station) -> Answer
     if s.mode != 3 {
         return tell_station(s, mhz, design, elevation);
     }
-    let parm = s.parm;
-    tell_spanned(0, parm[4], elevation, false)
+    tell_spanned(0, s.parm[4], elevation, false)
 }
 
 // What stands beside the plate that these bytes ask for.
-pub fn tell(input: &[u8]) -> Answer
-    ensures { heading_answer result ≡ heading_of input.now }
+#[tactic(auto, unfolding(crate::specs::Heading::heading_of, request::specs::Request::and_then))]
+pub fn tell(input: &[u8]) -> Result<Heading, Refusal>
+    ensures { outcome result ≡ heading_of input.now }
 {
-    if input.len() != 237 {
-        return Answer::Refused(answers::RECORD);
-    }
-    let reading = station::read(&input[..225]);
-    let verdict = reading.verdict;
-    let station = reading.station;
-    match verdict {
-        Verdict::Refused(n) => Answer::Refused(n),
-        Verdict::Accepted => tell_read(input, station),
-    }
+    let station = station_of(input)?;
+    tell_read(input, station)
 }

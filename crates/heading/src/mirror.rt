@@ -6,6 +6,7 @@ ghost use Rattle.heading.specs.Mirrored.{is_zero, mirrored_of};
 use numeric::float::to_i32;
 
 // Whether a slew truncates to 0.
+#[tactic(auto, unfolding(crate::specs::Mirrored::is_zero))]
 fn is_unslewed(slew: f32) -> bool
     ensures { result ≡ is_zero (to_signed 31 slew) }
 {
@@ -14,6 +15,7 @@ fn is_unslewed(slew: f32) -> bool
 }
 
 // Types 1 to 4 without slew, and types 5 and 6.
+#[tactic(auto, unfolding(crate::specs::Mirrored::mirrored_of))]
 pub(crate) fn is_mirrored(iant: u32, slew: f32) -> bool
     ensures { result ≡ mirrored_of iant slew }
 {

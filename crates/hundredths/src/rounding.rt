@@ -7,6 +7,7 @@ use numeric::bits::bits_of;
 use numeric::float::abs;
 
 // Whether x is at most 1,000 in size: a NaN and an infinity aren't.
+#[tactic(auto, using(crate::proofs::Span::span_test))]
 pub fn in_span(x: f32) -> bool
     ensures { result ≡ in_span x }
 {

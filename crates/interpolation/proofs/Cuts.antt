@@ -50,8 +50,8 @@ cut-from w a (fin false m e) z f h =
     omega arith
 
 -- a frequency in the band has 1 to 30 whole MHz
-pub cut-band : (x : Float) → in_band x ≡ true → (1 ≤ to_unsigned 64 x) × (to_unsigned 64 x < 31)
+pub cut_band : (x : Float) → in_band x ≡ true → (1 ≤ to_unsigned 64 x) × (to_unsigned 64 x < 31)
 unfolding in_band from_to of_bits
-cut-band x h =
+cut_band x h =
     let p = both (le (number 1) x) (lt x (number 31)) h in
     (cut-from 64 1 x (omega arith) (omega arith) p.0, cut_below 64 31 x (omega arith) p.1)

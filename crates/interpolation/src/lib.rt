@@ -9,6 +9,7 @@ ghost use Rattle.interpolation.specs.Interpolation.{lower_mhz, gain_ter_b, frs, 
 use floats::range::is_between;
 
 // The whole MHz below freq; 29 at 30.
+#[tactic(auto, using(crate::proofs::Cuts::cut_band), unfolding(crate::specs::Interpolation::lower_mhz))]
 fn lower_mhz(freq: f32) -> usize
     requires { in_band freq ≡ true }
     ensures value { result ≡ lower_mhz freq }
@@ -19,6 +20,7 @@ fn lower_mhz(freq: f32) -> usize
 }
 
 // Inner step of `setmaxgain`, which refuses other frequencies: the maximum gain by the gains at 1, 2 .. 30 MHz (types 5 to 7).
+#[tactic(auto, unfolding(crate::specs::Interpolation::gain_ter_b))]
 pub fn gainterb(gainab: [f32; 30], freq: f32) -> f32
     requires { in_band freq ≡ true }
     ensures { result ≡ gain_ter_b gainab freq }
@@ -31,6 +33,7 @@ pub fn gainterb(gainab: [f32; 30], freq: f32) -> f32
 }
 
 // The frequency ratios of the three gains.
+#[tactic(auto, unfolding(crate::specs::Interpolation::frs))]
 fn ratios_of(iant: u32) -> [f32; 3]
     ensures { result ≡ frs iant }
 {
@@ -42,6 +45,7 @@ fn ratios_of(iant: u32) -> [f32; 3]
 }
 
 // The lower one of the two gains to interpolate between.
+#[tactic(auto, unfolding(crate::specs::Interpolation::ratio_index))]
 fn ratio_index(fr: f32) -> usize
     ensures value { result ≡ ratio_index fr }
     ensures upper_bound { result ≤ 1 }
@@ -50,6 +54,7 @@ fn ratio_index(fr: f32) -> usize
 }
 
 // `gainterp1`: the maximum gain at the ratio fr by three gains at one frequency.
+#[tactic(auto, unfolding(crate::specs::Interpolation::gain_terp1))]
 pub fn gainterp1(gainaa: [f32; 3], fr: f32, iant: u32) -> f32
     ensures { result ≡ gain_terp1 gainaa fr iant }
 {
@@ -61,6 +66,7 @@ pub fn gainterp1(gainaa: [f32; 3], fr: f32, iant: u32) -> f32
 }
 
 // Whether the gains cover the ratio.
+#[tactic(auto, unfolding(crate::specs::Interpolation::ratio_ok))]
 fn ratio_ok(iant: u32, fr: f32) -> bool
     ensures { result ≡ ratio_ok iant fr }
 {
@@ -73,6 +79,7 @@ fn ratio_ok(iant: u32, fr: f32) -> bool
 
 // `gainterp`: the maximum gain between the row at 2 MHz and the row at 30 MHz (types 1 to 4, 8 and
 // 9); -30 where the ratio lies outside.
+#[tactic(auto, unfolding(crate::specs::Interpolation::gain_terp))]
 pub fn gainterp(gainmax: [f32; 6], foper: f32, fdesign: f32, iant: u32) -> f32
     ensures { result ≡ gain_terp gainmax foper fdesign iant }
 {

@@ -13,7 +13,9 @@ use power::powf;
 use root::sqrt;
 use sine::{cos, sin};
 
-// The elementary function of this number, of x, for powf of x and y; a NaN where there is none.
+// The elementary function of this number, C callers' own, of x, for powf of x and y; a NaN where there
+// is none.
+#[tactic(auto, unfolding(crate::specs::Leaf::leaf))]
 fn leaf_at(which: u32, x: f32, y: f32) -> f32
     ensures { result ≡ leaf which x y }
 {
@@ -25,11 +27,12 @@ fn leaf_at(which: u32, x: f32, y: f32) -> f32
         4 => powf(x, y),
         5 => atan(x),
         6 => sqrt(x),
-        _ => 0.0 / 0.0,
+        _ => f32::NAN,
     }
 }
 
 // The same over bit patterns.
+#[tactic(auto, unfolding(crate::specs::Leaf::leaf_of))]
 pub fn by_number(which: u32, a: u32, b: u32) -> u32
     ensures { result ≡ leaf_of which a b }
 {

@@ -10,9 +10,13 @@ use lib.Seq.{slice, get_or-set_same, get_or-set_other}
 use lib.Dec.{eqb, ltb, leb}
 use lib.Ieee.{Float, binary32, to_bits}
 use lib.Ieee.Scale.{finite}
+use Rattle.answers.specs.declared.Refusal.{Refusal}
+use Rattle.answers.specs.Outcome.{number}
 use Rattle.answers.specs.Refusals.{VALUE, SPACE}
+use Rattle.answers.proofs.Outcome.{number-pos}
 use borrow.Author.Tests.{eqb-true, eqb-false, leb-true, ltb-true, eq-eqb, ne_eqb, le-leb, lt-ltb}
-use Rattle.levels.specs.State.{held, next, received, all, is_level, is_zero, next_ok, can_be_left}
+use Rattle.std.specs.List.{list_all}
+use Rattle.levels.specs.State.{held, next, received, is_level, is_zero, next_ok, can_be_left}
 use Rattle.levels.specs.Answers.{refusal_of}
 
 -- what the test asks, part by part
@@ -20,8 +24,8 @@ pub record Accepted (s : List ℕ) : Type 0 where
   pub words : length s ≡ 66
   pub few : held s ≤ 64
   pub place : ((held s ≡ 64) × (next s < 64)) ⊎ ((held s < 64) × (next s ≡ held s))
-  pub levels : all is_level (slice 0 (held s) s) ≡ true
-  pub zeros : all is_zero (slice (held s) 64 s) ≡ true
+  pub levels : list_all is_level (slice 0 (held s) s) ≡ true
+  pub zeros : list_all is_zero (slice (held s) 64 s) ≡ true
 
 pub both : (p q : Bool) → (p && q) ≡ true → (p ≡ true) × (q ≡ true)
 both true q h = (refl, h)
@@ -35,11 +39,11 @@ place_of n p few ok = by (eqb n 64) refl ok
     by true e h = inl (eqb-true n 64 e, ltb-true p 64 h)
     by false e h = let d = eqb-false n 64 e in inr (omega arith, eqb-true p n h)
 
-pub accepted : (s : List ℕ) → can_be_left s ≡ true → Accepted s
+pub parts_of : (s : List ℕ) → can_be_left s ≡ true → Accepted s
 unfolding can_be_left
-accepted s h =
-    let a = both (eqb (length s) 66 && leb (held s) 64 && next_ok (held s) (next s) && all is_level (slice 0 (held s) s)) (all is_zero (slice (held s) 64 s)) h in
-    let b = both (eqb (length s) 66 && leb (held s) 64 && next_ok (held s) (next s)) (all is_level (slice 0 (held s) s)) a.0 in
+parts_of s h =
+    let a = both (eqb (length s) 66 && leb (held s) 64 && next_ok (held s) (next s) && list_all is_level (slice 0 (held s) s)) (list_all is_zero (slice (held s) 64 s)) h in
+    let b = both (eqb (length s) 66 && leb (held s) 64 && next_ok (held s) (next s)) (list_all is_level (slice 0 (held s) s)) a.0 in
     let c = both (eqb (length s) 66 && leb (held s) 64) (next_ok (held s) (next s)) b.0 in
     let d = both (eqb (length s) 66) (leb (held s) 64) c.0 in
     let few = leb-true (held s) 64 d.1 in
@@ -57,12 +61,20 @@ accepts s a = rw (eq-eqb (length s) 66 a.words, le-leb (held s) 64 a.few, place_
 -- a record that isn't refused
 pub passed : (s : List ℕ) (x : Float) → refusal_of s x ≡ 0 → Accepted s
 unfolding refusal_of
-passed s x h = accepted s (by (finite x) (can_be_left s) h)
+passed s x h = parts_of s (by (finite x) (can_be_left s) h)
   where
     by : (f b : Bool) → cond (not f) VALUE (cond (not b) SPACE 0) ≡ 0 → b ≡ true
     by f true e = refl
     by true false e = absurd (eqb-false SPACE 0 refl e)
     by false false e = absurd (eqb-false VALUE 0 refl e)
+
+-- the state after a record that is refused, and after one that isn't
+module _ (n : ℕ) (was is : List ℕ) where
+  pub kept_by : (r : Refusal) → number r ≡ n → cond (ltb 0 n) was is ≡ was
+  kept_by r e = rw (← e, lt-ltb 0 (number r) (number-pos r))
+
+  pub changed_by : 0 ≡ n → cond (ltb 0 n) was is ≡ is
+  changed_by e = rw (← e)
 
 -- what `shown` asks of a state
 abbrev pub Readable : List ℕ → Type 0

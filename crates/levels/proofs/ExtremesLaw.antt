@@ -8,8 +8,9 @@ use lib.ListN.{length, take, take-append-drop}
 use lib.Seq.{append_snoc}
 use lib.Ieee.{Float}
 use lib.Ieee.Scale.{finite}
-use Rattle.levels.specs.declared.Screen.TheVariants.{Levels}
-use Rattle.levels.specs.Shown.{greater, lesser, screen_of}
+use Rattle.std.proofs.Common.{Some}
+use Rattle.levels.specs.declared.Levels.{Levels}
+use Rattle.levels.specs.Shown.{levels, greater, lesser, screen_of}
 use Rattle.levels.specs.Run.{counted, tail}
 use Rattle.levels.specs.ExtremesLaw.{Each, none, also, Stands, above, under, ExtremesLaw}
 use Rattle.levels.proofs.Order.{lt_asymmetric, above_across, under_across}
@@ -94,15 +95,14 @@ module _ (beats : Float → Float → Bool) where
 
 -- ---- what is shown of finite levels
 
-shows : (l : List Float) → Finite l → (n : ℕ) (g m : Float) → screen_of l ≡ Levels n g m → (n ≡ length l) × Stands above l g × Stands under l m
+shows : (xs : List Float) → Finite xs → (l : Levels) → screen_of xs ≡ Some l → (l.held ≡ length xs) × Stands above xs l.greatest × Stands under xs l.least
 unfolding screen_of greater lesser
-shows [] f n g m e = let z : ◌≡◌ {A = ℕ} 0 1 = cc in absurd (omega arith)
-shows (x ∷ xs) f n g m e =
-    let greatest : foldl greater x xs ≡ g = cc in
-    let least : foldl lesser x xs ≡ m = cc in (
-      cc,
-      subst (Stands above (x ∷ xs)) greatest (stands above (λ a b h k p. lt_asymmetric b a k h p) above_across x xs f),
-      subst (Stands under (x ∷ xs)) least (stands under lt_asymmetric under_across x xs f),
+shows [] f l e = let z : ◌≡◌ {A = ℕ} 0 1 = cc in absurd (omega arith)
+shows (x ∷ xs) f l e =
+    let same : levels (length (x ∷ xs)) (foldl greater x xs) (foldl lesser x xs) ≡ l = cc in (
+      ap (λ (k : Levels). k.held) (sym same),
+      subst (Stands above (x ∷ xs)) (ap (λ (k : Levels). k.greatest) same) (stands above (λ a b h k p. lt_asymmetric b a k h p) above_across x xs f),
+      subst (Stands under (x ∷ xs)) (ap (λ (k : Levels). k.least) same) (stands under lt_asymmetric under_across x xs f),
     )
 
 counted-finite : (xs : List Float) → Finite (counted xs)

@@ -7,15 +7,14 @@ use native.Mathlib.Omega.{arith}
 use lib.ListN.{length, length-map, replicate}
 use lib.Seq.{slice_empty, take_at}
 use lib.Ieee.{Float, binary32, of_bits, to_bits}
-use Rattle.levels.specs.State.{levels_in, all, is_level}
+use Rattle.levels.specs.State.{levels_in, is_level}
 use Rattle.levels.proofs.Acceptance.{Accepted}
-use Rattle.levels.proofs.Places.{all_append}
+use Rattle.std.proofs.lemmas.List.Folds.{list_all-append}
 use Rattle.levels.proofs.Shapes.{bits, state_of, filling, words_of_lem, held_of, next_of, first_part, second-part, filling_full, turning_full}
-use Rattle.levels.proofs.Levels.{Counts, counts_parts, read_back, all_levels_lem, all-zeros}
+use Rattle.levels.proofs.Counting.{Counts, counts_parts, read_back, all_levels_lem, all-zeros}
 use Rattle.levels.proofs.Runs.{Holds, fills, turns}
 
 pub holds-accepted : (s : List ℕ) (t : List Float) → Holds s t → Counts t → Accepted s
-unfolding all
 holds-accepted s t (fills a z e) p =
     let rest : List ℕ = replicate (suc z) 0 in
     let ring = bits a ++ rest in
@@ -40,7 +39,7 @@ holds-accepted s t (turns a b e l) p =
       words = words_of_lem ring 64 n full;
       few = rw h (omega arith);
       place = inl (h, rw (next_of ring 64 n full) (omega arith));
-      levels = rw (h, take_at ring (64 ∷ n ∷ []) 64 full, all_append is_level (bits a) (bits b), all_levels_lem q.1, all_levels_lem q.0);
+      levels = rw (h, take_at ring (64 ∷ n ∷ []) 64 full, list_all-append is_level (bits a) (bits b), all_levels_lem q.1, all_levels_lem q.0);
       zeros = rw (h, slice_empty 64 (state_of ring 64 n));
     }
 

@@ -6,7 +6,7 @@ pub mod Order
 pub mod ExtremesLaw
 pub mod Shapes
 pub mod Tails
-pub mod Levels
+pub mod Counting
 pub mod Runs
 pub mod Holding
 pub mod Reached

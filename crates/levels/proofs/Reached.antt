@@ -9,12 +9,13 @@ use lib.ListN.{length, length-map, length-drop, take, drop, replicate, take-appe
 use lib.Seq.{slice, take-take, drop-cons, length-take-le, length-slice}
 use lib.Dec.{lit<}
 use lib.Ieee.{Float, binary32, of_bits, to_bits}
-use Rattle.levels.specs.State.{held, next, all, is_level}
+use Rattle.std.specs.List.{list_all}
+use Rattle.levels.specs.State.{held, next, is_level}
 use Rattle.levels.specs.Run.{leaves}
 use Rattle.levels.specs.RunLaw.{Run, Words}
 use Rattle.levels.proofs.Acceptance.{Accepted}
 use Rattle.levels.proofs.Shapes.{bits, state_of}
-use Rattle.levels.proofs.Levels.{Counts, counts_parts, levels_of_lem, zeros_of, run_of, counts_append}
+use Rattle.levels.proofs.Counting.{Counts, counts_parts, levels_of_lem, zeros_of, run_of, counts_append}
 use Rattle.levels.proofs.Runs.{leaves_filling, leaves_turning}
 
 parts : (s : List ℕ) → length s ≡ 66 → s ≡ state_of (take 64 s) (held s) (next s)
@@ -31,7 +32,7 @@ words_take (suc k) (w ∷ s) h zero = h zero
 words_take (suc k) (w ∷ s) h (suc i) = words_take k s (λ j. h (suc j)) i
 
 -- words whose floats count
-levels : (s : List ℕ) (k : ℕ) → Words s → all is_level (slice 0 k s) ≡ true → Counts (map (of_bits binary32) (take k s)) × (bits (map (of_bits binary32) (take k s)) ≡ take k s)
+levels : (s : List ℕ) (k : ℕ) → Words s → list_all is_level (slice 0 k s) ≡ true → Counts (map (of_bits binary32) (take k s)) × (bits (map (of_bits binary32) (take k s)) ≡ take k s)
 levels s k w a = levels_of_lem (take k s) (words_take k s w) a
 
 left_filling : (s : List ℕ) → Words s → Accepted s → held s < 64 → next s ≡ held s → (xs : List Float) × Run xs × (leaves xs ≡ s)

@@ -4,18 +4,18 @@ use mathlib.Core.Bool.{Bool, true, false, cond, not}
 use mathlib.Core.List.{List, [], ◌∷◌, ◌++◌}
 use Prim.Native.Nat.{ℕ, ◌-◌}
 use lib.ListN.{length}
-use lib.Dec.{T, eqb}
+use lib.Dec.{T, ltb}
 use lib.Ieee.{Float, binary32, fits}
 use lib.Ieee.Scale.{finite}
+use Rattle.answers.specs.Outcome.{refused, accepted}
 use Rattle.answers.specs.Refusals.{VALUE}
-use Rattle.levels.specs.declared.Screen.TheVariants.{Refused}
 use Rattle.levels.specs.State.{received, levels_in, can_be_left}
 use Rattle.levels.specs.Shown.{screen_of}
 use Rattle.levels.specs.Answers.{refusal_of, record_of, state_after, show_of}
 use Rattle.levels.specs.Run.{counted, tail, sent, leaves}
 use Rattle.levels.specs.RunLaw.{Run, none, more, RunLaw}
-use Rattle.levels.proofs.Acceptance.{accepted, accepts}
-use Rattle.levels.proofs.Levels.{Counts, counts_drop, counts_counted}
+use Rattle.levels.proofs.Acceptance.{parts_of, accepts}
+use Rattle.levels.proofs.Counting.{Counts, counts_drop, counts_counted}
 use Rattle.levels.proofs.Runs.{holds-tail, leaves_append}
 use Rattle.levels.proofs.Holding.{holds-accepted, holds_levels}
 use Rattle.levels.proofs.Reached.{left}
@@ -26,15 +26,15 @@ module _ (s : List ℕ) (x : Float) (ok : can_be_left s ≡ true) where
   unfolding state_after refusal_of sent
   after-sent = rw ok (by (finite x))
     where
-      by : (b : Bool) → cond (eqb (cond (not b) VALUE 0) 0) (received s x) s ≡ cond b (received s x) s
+      by : (b : Bool) → cond (ltb 0 (cond (not b) VALUE 0)) s (received s x) ≡ cond b (received s x) s
       by true = refl
       by false = refl
 
-  answer-sent : record_of s x ≡ cond (finite x) (screen_of (levels_in (sent s x))) (Refused VALUE)
+  answer-sent : record_of s x ≡ cond (finite x) (accepted (screen_of (levels_in (sent s x)))) (refused VALUE)
   unfolding record_of refusal_of sent
   answer-sent = rw ok (by (finite x))
     where
-      by : (b : Bool) → cond (eqb (cond (not b) VALUE 0) 0) (screen_of (levels_in (received s x))) (Refused (cond (not b) VALUE 0)) ≡ cond b (screen_of (levels_in (cond b (received s x) s))) (Refused VALUE)
+      by : (b : Bool) → cond (ltb 0 (cond (not b) VALUE 0)) (refused (cond (not b) VALUE 0)) (accepted (screen_of (levels_in (received s x)))) ≡ cond b (accepted (screen_of (levels_in (cond b (received s x) s)))) (refused VALUE)
       by true = refl
       by false = refl
 
@@ -50,7 +50,7 @@ module _ {xs : List Float} (r : Run xs) where
   levels_after : levels_in (leaves xs) ≡ tail (counted xs)
   levels_after = holds_levels (leaves xs) (tail (counted xs)) (holds-tail xs) tail_counts
 
-  shown-after : show_of (leaves xs) ≡ screen_of (tail (counted xs))
+  shown-after : show_of (leaves xs) ≡ accepted (screen_of (tail (counted xs)))
   unfolding show_of
   shown-after = rw (accepted-after, levels_after)
 
@@ -59,15 +59,15 @@ longer-run none x h = more h none
 longer-run (more g r) x h = more g (longer-run r x h)
 
 recorded : {xs : List Float} → Run xs → (x : Float) → T (fits binary32 x)
-    → record_of (leaves xs) x ≡ cond (finite x) (screen_of (tail (counted (xs ++ (x ∷ []))))) (Refused VALUE)
+    → record_of (leaves xs) x ≡ cond (finite x) (accepted (screen_of (tail (counted (xs ++ (x ∷ [])))))) (refused VALUE)
 recorded {xs} r x h =
     answer-sent (leaves xs) x (accepted-after r)
-    ∙ ap (λ (l : List Float). cond (finite x) (screen_of l) (Refused VALUE)) (ap levels_in (sym (leaves_append xs (x ∷ []))) ∙ levels_after (longer-run r x h))
+    ∙ ap (λ (l : List Float). cond (finite x) (accepted (screen_of l)) (refused VALUE)) (ap levels_in (sym (leaves_append xs (x ∷ []))) ∙ levels_after (longer-run r x h))
 
 pub run_law : RunLaw
 run_law = record {
   run_accepted = accepted-after;
-  accepted_run = λ s w h. left s w (accepted s h);
+  accepted_run = λ s w h. left s w (parts_of s h);
   next_state = λ {xs} r x. after-sent (leaves xs) x (accepted-after r) ∙ sym (leaves_append xs (x ∷ []));
   next_answer = recorded;
   answer = shown-after;

@@ -11,7 +11,7 @@ use lib.Ieee.{Float, nan}
 use lib.Ieee.Scale.{finite}
 use Rattle.levels.specs.State.{received}
 use Rattle.levels.specs.Run.{counted, tail, sent, leaves}
-use Rattle.levels.proofs.Levels.{Counts, and_one, counts_parts}
+use Rattle.levels.proofs.Counting.{Counts, and_one, counts_parts}
 use Rattle.levels.proofs.Shapes.{filling, turning, fill_more, fill_last, turn_more, turn_last}
 use Rattle.levels.proofs.Tails.{tail_all, tail_one_off, tail_more}
 

@@ -1,8 +1,8 @@
 -- Document 02, card 13: what the greatest and the least of a run's tail are, and which of two that tie stands.
 -- Definitions only; proofs/ExtremesLaw.antt has the theorem.
-use Rattle.std.specs.Prelude.{◌≡◌, ℕ, Bool, true, false, List, [], ◌∷◌, ◌++◌, length, Float}
+use Rattle.std.specs.Prelude.{◌≡◌, Bool, true, false, List, [], ◌∷◌, ◌++◌, length, Some, Float}
 use Rattle.std.specs.Float.Ieee.{lt}
-use Rattle.levels.specs.declared.Screen.TheVariants.{Levels}
+use Rattle.levels.specs.declared.Levels.{Levels}
 use Rattle.levels.specs.Shown.{screen_of}
 use Rattle.levels.specs.Run.{counted, tail}
 
@@ -26,7 +26,7 @@ under x y = lt x y
 
 pub record ExtremesLaw : Type 0 where
   -- what is shown of a run: how many its tail has, and the levels that stand in it
-  pub shown : (xs : List Float) (n : ℕ) (greatest least : Float) → screen_of (tail (counted xs)) ≡ Levels n greatest least
-      → (n ≡ length (tail (counted xs))) × Stands above (tail (counted xs)) greatest × Stands under (tail (counted xs)) least
+  pub shown : (xs : List Float) (l : Levels) → screen_of (tail (counted xs)) ≡ Some l
+      → (l.held ≡ length (tail (counted xs))) × Stands above (tail (counted xs)) l.greatest × Stands under (tail (counted xs)) l.least
   -- and no other level stands
   pub only : (beats : Float → Float → Bool) (l : List Float) (x y : Float) → Stands beats l x → Stands beats l y → x ≡ y

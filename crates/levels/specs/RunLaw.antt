@@ -4,8 +4,8 @@ use Rattle.std.specs.Prelude.{◌≡◌, ℕ, ◌^◌, ◌<◌, true, cond, List
 use Rattle.std.specs.Float.{binary32}
 use Rattle.std.specs.Float.Ieee.{fits}
 use Rattle.std.specs.Float.Ieee.Scale.{finite}
+use Rattle.answers.specs.Outcome.{refused, accepted}
 use Rattle.answers.specs.Refusals.{VALUE}
-use Rattle.levels.specs.declared.Screen.TheVariants.{Refused}
 use Rattle.levels.specs.Shown.{screen_of}
 use Rattle.levels.specs.State.{can_be_left}
 use Rattle.levels.specs.Run.{counted, tail, leaves}
@@ -27,5 +27,5 @@ pub record RunLaw : Type 0 where
   -- a record leaves what the longer run leaves, and answers by the longer run's tail; one that is refused changes nothing
   pub next_state : {xs : List Float} → Run xs → (x : Float) → state_after (leaves xs) x ≡ leaves (xs ++ (x ∷ []))
   pub next_answer : {xs : List Float} → Run xs → (x : Float) → T (fits binary32 x)
-      → record_of (leaves xs) x ≡ cond (finite x) (screen_of (tail (counted (xs ++ (x ∷ []))))) (Refused VALUE)
-  pub answer : {xs : List Float} → Run xs → show_of (leaves xs) ≡ screen_of (tail (counted xs))
+      → record_of (leaves xs) x ≡ cond (finite x) (accepted (screen_of (tail (counted (xs ++ (x ∷ [])))))) (refused VALUE)
+  pub answer : {xs : List Float} → Run xs → show_of (leaves xs) ≡ accepted (screen_of (tail (counted xs)))

@@ -1,9 +1,8 @@
 -- Document 02, card 13: what the trainer's screen shows of levels, the earliest received first. Definitions only.
-use Rattle.std.specs.Prelude.{cond, length, Float}
+use Rattle.std.specs.Prelude.{ℕ, cond, length, Option, Some, None, Float}
 use mathlib.Core.List.{List, [], ◌∷◌, foldl}
 use Rattle.std.specs.Float.Ieee.{lt}
-use Rattle.levels.specs.declared.Screen.{Screen}
-use Rattle.levels.specs.declared.Screen.TheVariants.{Nothing, Levels}
+use Rattle.levels.specs.declared.Levels.{Levels}
 
 -- of an earlier and a later level the one that stands as the greatest: where they tie, as +0 and -0 do, the earlier
 unfoldable pub greater : Float → Float → Float
@@ -13,7 +12,11 @@ greater earlier later = cond (lt earlier later) later earlier
 unfoldable pub lesser : Float → Float → Float
 lesser earlier later = cond (lt later earlier) later earlier
 
--- how many, the greatest and the least; a case of its own where there is none
-unfoldable pub screen_of : List Float → Screen
-screen_of [] = Nothing
-screen_of (x ∷ xs) = Levels (length (x ∷ xs)) (foldl greater x xs) (foldl lesser x xs)
+-- how many, the greatest and the least
+abbrev pub levels : ℕ → Float → Float → Levels
+levels held greatest least = record { held = held; greatest = greatest; least = least }
+
+-- nothing where there is no level
+unfoldable pub screen_of : List Float → Option Levels
+screen_of [] = None
+screen_of (x ∷ xs) = Some (levels (length (x ∷ xs)) (foldl greater x xs) (foldl lesser x xs))

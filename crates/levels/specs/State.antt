@@ -1,5 +1,6 @@
 -- Document 02, card 13: the lent state, 66 words: a ring of 64 levels' bits, then how many it holds, then the next place 0 to 63. Definitions only.
-use Rattle.std.specs.Prelude.{ℕ, ◌+◌, ◌%◌, min, Bool, true, cond, ◌&&◌, List, [], ◌∷◌, ◌++◌, map, length, get_or, set, eqb, ltb, leb, Float}
+use Rattle.std.specs.Prelude.{ℕ, ◌+◌, ◌%◌, min, Bool, cond, ◌&&◌, List, ◌++◌, map, length, get_or, set, eqb, ltb, leb, Float}
+use Rattle.std.specs.List.{list_all}
 use Rattle.std.proofs.Math.Seq.{slice}
 use Rattle.std.specs.Float.{binary32}
 use Rattle.std.specs.Float.Ieee.{of_bits, to_bits}
@@ -21,11 +22,6 @@ received s x = set (set (set s (next s) (to_bits binary32 x)) 64 (min (held s + 
 unfoldable pub levels_in : List ℕ → List Float
 levels_in s = map (of_bits binary32) (slice (next s) (held s) s ++ slice 0 (next s) s)
 
--- each of the words passes the test
-unfoldable pub all : (ℕ → Bool) → List ℕ → Bool
-all p [] = true
-all p (w ∷ ws) = p w && all p ws
-
 -- the bits of a finite float
 abbrev pub is_level : ℕ → Bool
 is_level w = finite (of_bits binary32 w)
@@ -43,5 +39,5 @@ can_be_left s =
     eqb (length s) 66
     && leb (held s) 64
     && next_ok (held s) (next s)
-    && all is_level (slice 0 (held s) s)
-    && all is_zero (slice (held s) 64 s)
+    && list_all is_level (slice 0 (held s) s)
+    && list_all is_zero (slice (held s) 64 s)

@@ -6,7 +6,7 @@ ghost use Rattle.std.specs.Float.Ieee.{of_bits};
 ghost use Rattle.levels.specs.State.{held, next, levels_in};
 ghost use Rattle.levels.specs.Shown.{screen_of};
 
-use crate::Screen;
+use crate::Levels;
 use crate::extremes::{Extremes, extremes_over};
 use numeric::bits::float_of;
 
@@ -23,13 +23,13 @@ fn earliest(state: &[u32], held: usize, next: usize) -> f32
 }
 
 // The ring's later part was received earlier, so it is compared first.
-pub(crate) fn shown(state: &[u32]) -> Screen
+pub(crate) fn shown(state: &[u32]) -> Option<Levels>
     requires { (length state.now ≡ 66) × (held state.now ≤ 64) × (next state.now ≤ held state.now) }
     ensures { result ≡ screen_of (levels_in state.now) }
 {
     let count = state[64];
     if count == 0 {
-        return Screen::Nothing;
+        return None;
     }
     let held = count as usize;
     let next = state[65] as usize;
@@ -38,11 +38,11 @@ pub(crate) fn shown(state: &[u32]) -> Screen
         greatest: first,
         least: first,
     };
-    let late = extremes_over(state, next, held, alone);
-    let all = extremes_over(state, 0, next, late);
-    Screen::Levels {
+    let late = extremes_over(&state[next..held], alone);
+    let all = extremes_over(&state[..next], late);
+    Some(Levels {
         held: count,
         greatest: all.greatest,
         least: all.least,
-    }
+    })
 }

@@ -15,43 +15,39 @@ mod extremes;
 mod state;
 
 ghost use Rattle.std.specs.Prelude.{◌≡◌};
+ghost use Rattle.answers.specs.Outcome.{outcome};
 ghost use Rattle.levels.specs.Answers.{record_of, state_after, show_of};
 
+use answers::Refusal;
 use display::shown;
-use state::{left_by_a_run, receive, refusal};
+use state::{check, left_by_a_run, receive};
 
-// What the trainer's screen shows, or the refusal's number.
+// What the trainer's screen shows: how many levels are held, the greatest and the least of them.
 #[derive(Clone, Copy)]
-pub enum Screen {
-    // No level was received.
-    Nothing,
-    Levels {
-        held: u32,
-        greatest: f32,
-        least: f32,
-    },
-    Refused(u8),
+pub struct Levels {
+    pub held: u32,
+    pub greatest: f32,
+    pub least: f32,
 }
 
 // One level more, and what is shown then; a refusal leaves the state as it was.
-pub fn record(state: &mut [u32], level: f32) -> Screen
-    ensures value { result ≡ record_of state.old level }
+#[tactic(auto, using(answers::proofs::Outcome::refused_by, answers::proofs::Outcome::granted_by, crate::proofs::Acceptance::kept_by, crate::proofs::Acceptance::changed_by), unfolding(crate::specs::Answers::record_of, crate::specs::Answers::state_after))]
+pub fn record(state: &mut [u32], level: f32) -> Result<Option<Levels>, Refusal>
+    ensures value { outcome result ≡ record_of state.old level }
     ensures state_after { state.new ≡ state_after state.old level }
 {
-    let number = refusal(state, level);
-    if number != 0 {
-        return Screen::Refused(number);
-    }
+    check(state, level)?;
     receive(state, level);
-    shown(state)
+    Ok(shown(state))
 }
 
-// What is shown.
-pub fn show(state: &[u32]) -> Screen
-    ensures { result ≡ show_of state.now }
+// What is shown, nothing before the first level.
+#[tactic(auto, unfolding(crate::specs::Answers::show_of))]
+pub fn show(state: &[u32]) -> Result<Option<Levels>, Refusal>
+    ensures { outcome result ≡ show_of state.now }
 {
     if !left_by_a_run(state) {
-        return Screen::Refused(answers::SPACE);
+        return Err(Refusal::Space);
     }
-    shown(state)
+    Ok(shown(state))
 }

@@ -1,40 +1,28 @@
 // The lent state, 66 words: a ring of 64 levels' bits, how many it holds, the next place.
-ghost use Rattle.std.specs.Prelude.{◌≡◌, ◌≤◌, ◌<◌, min, ◌+◌, length};
-ghost use Rattle.std.proofs.Math.Seq.{slice};
-ghost use Rattle.levels.specs.State.{held, next, received, all, is_level, is_zero, next_ok, can_be_left};
+ghost use Rattle.std.specs.Prelude.{◌≡◌, ◌≤◌, ◌<◌, length};
+ghost use Rattle.std.specs.List.{list_all};
+ghost use Rattle.answers.specs.Outcome.{number_of};
+ghost use Rattle.levels.specs.State.{held, next, received, is_level, is_zero, next_ok, can_be_left};
 ghost use Rattle.levels.specs.Answers.{refusal_of};
 
+use answers::Refusal;
 use numeric::bits::{bits_of, float_of};
 use numeric::float::is_finite;
 
-// Whether the words before place `to` are the bits of finite floats.
-fn all_levels(state: &[u32], to: usize) -> bool
-    requires { to ≤ length state.now }
-    ensures { result ≡ all is_level (slice 0 to state.now) }
+// Whether the words are the bits of finite floats.
+fn all_levels(words: &[u32]) -> bool
+    ensures { result ≡ list_all is_level words.now }
 {
-    let mut ok = true;
-    let mut i: usize = 0;
-    while i < to {
-        ok = ok & is_finite(float_of(state[i]));
-        i += 1;
-    }
-    ok
+    words.iter().all(|w| is_finite(float_of(*w)))
 }
 
-// Whether the words of the places from `from` to before `to` are 0.
-fn all_zero(state: &[u32], from: usize, to: usize) -> bool
-    requires { (from ≤ to) × (to ≤ length state.now) }
-    ensures { result ≡ all is_zero (slice from to state.now) }
+fn all_zero(words: &[u32]) -> bool
+    ensures { result ≡ list_all is_zero words.now }
 {
-    let mut ok = true;
-    let mut i: usize = from;
-    while i < to {
-        ok = ok & (state[i] == 0);
-        i += 1;
-    }
-    ok
+    words.iter().all(|w| *w == 0)
 }
 
+#[tactic(auto, unfolding(crate::specs::State::next_ok))]
 fn next_ok(held: u32, next: u32) -> bool
     ensures { result ≡ next_ok held next }
 {
@@ -42,6 +30,7 @@ fn next_ok(held: u32, next: u32) -> bool
 }
 
 // Whether some run could leave these words.
+#[tactic(auto, unfolding(crate::specs::State::can_be_left))]
 pub(crate) fn left_by_a_run(state: &[u32]) -> bool
     ensures { result ≡ can_be_left state.now }
 {
@@ -55,31 +44,26 @@ pub(crate) fn left_by_a_run(state: &[u32]) -> bool
     if !next_ok(held, state[65]) {
         return false;
     }
-    all_levels(state, held as usize) & all_zero(state, held as usize, 64)
+    let n = held as usize;
+    all_levels(&state[..n]) & all_zero(&state[n..64])
 }
 
-// The first number, 0 where there is none.
-pub(crate) fn refusal(state: &[u32], level: f32) -> u8
-    ensures { result ≡ refusal_of state.now level }
+// Whether a level may be recorded.
+#[tactic(auto, unfolding(crate::specs::Answers::refusal_of))]
+pub(crate) fn check(state: &[u32], level: f32) -> Result<(), Refusal>
+    ensures { number_of result ≡ refusal_of state.now level }
 {
     if !is_finite(level) {
-        return answers::VALUE;
+        return Err(Refusal::Value);
     }
     if !left_by_a_run(state) {
-        return answers::SPACE;
+        return Err(Refusal::Space);
     }
-    0
-}
-
-// How many a ring holds after one level more.
-fn one_more(held: u32) -> u32
-    requires { held ≤ 64 }
-    ensures { result ≡ min (held + 1) 64 }
-{
-    if held < 64 { held + 1 } else { 64 }
+    Ok(())
 }
 
 // One level more, over the earliest where the ring is full.
+#[tactic(auto, unfolding(crate::specs::State::received))]
 pub(crate) fn receive(state: &mut [u32], level: f32)
     requires { (length state.old ≡ 66) × (held state.old ≤ 64) × (next state.old < 64) }
     ensures { state.new ≡ received state.old level }
@@ -87,6 +71,6 @@ pub(crate) fn receive(state: &mut [u32], level: f32)
     let held = state[64];
     let next = state[65];
     state[next as usize] = bits_of(level);
-    state[64] = one_more(held);
+    state[64] = (held + 1).min(64);
     state[65] = (next + 1) % 64;
 }

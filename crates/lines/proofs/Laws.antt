@@ -1,5 +1,5 @@
 -- What lines, words and equal texts are, for the crates above. Assumes nothing.
-use mathlib.Core.Path.{◌≡◌, refl, ap, ◌∙◌}
+use mathlib.Core.Path.{◌≡◌, refl, sym, ap, ◌∙◌}
 use Prim.Native.Nat.{ℕ, suc, ◌+◌, ◌-◌, ◌≤◌, ◌<◌}
 use native.Mathlib.Omega.{arith}
 use mathlib.Core.Bool.{Bool, true, false, ◌&&◌}
@@ -7,6 +7,11 @@ use mathlib.Core.List.{List, [], ◌∷◌}
 use lib.Dec.{eqb}
 use lib.ListN.{length, take, drop, length-drop, length-take}
 use lib.Seq.{drop-drop}
+use Rattle.std.proofs.Common.{nat_eq}
+use Rattle.std.specs.Cmp.Lexicographic.{pointwise}
+use Rattle.std.specs.List.{starts_with}
+use Rattle.std.proofs.lemmas.Bool.Decides.{same_from_decides}
+use Rattle.std.proofs.lemmas.Slice.Eq.{bytes_eq-Decides}
 use borrow.Author.Tests.{eqb-true, eq-eqb}
 use Rattle.lines.specs.Pieces.{up_to, end_from, pieces}
 use Rattle.lines.specs.Lines.{is_line_feed, lines_of, mark, start_of}
@@ -33,6 +38,15 @@ alike_same (x ∷ s) = rw (eq-eqb x x refl) (alike_same s)
 
 pub alike-other : (s t : List ℕ) → (s ≡ t → ⊥) → alike s t ≡ false
 alike-other s t h = by_test (alike s t) (λ e. absurd (h (alike_equal s t e))) (λ e. e)
+
+-- as the code compares them
+pub alike_is : (s t : List ℕ) → pointwise nat_eq s t ≡ alike s t
+alike_is s t = same_from_decides (pointwise nat_eq s t) (alike s t) (bytes_eq-Decides s t) (alike_equal s t, λ e. rw (← e) (alike_same s))
+
+pub mark_starts : (text : List ℕ) → starts_with nat_eq text mark ≡ alike (take 3 text) mark
+mark_starts text =
+    same_from_decides (pointwise nat_eq mark (take 3 text)) (alike (take 3 text) mark) (bytes_eq-Decides mark (take 3 text))
+    (λ e. sym (alike_equal (take 3 text) mark e), λ e. rw (← e) (alike_same mark))
 
 -- ---- lines
 

@@ -28,30 +28,19 @@ pub struct Span {
 }
 
 // Whether two texts are the same.
+#[tactic(auto, using(crate::proofs::Laws::alike_is))]
 pub fn same(a: &[u8], b: &[u8]) -> bool
     ensures { result ≡ alike a.now b.now }
 {
-    if a.len() != b.len() {
-        return false;
-    }
-    let mut i: usize = 0;
-    while i < a.len() {
-        if a[i] != b[i] {
-            return false;
-        }
-        i += 1;
-    }
-    true
+    a == b
 }
 
 // Where a text starts: 3 after a byte-order mark, or 0.
+#[tactic(auto, using(crate::proofs::Laws::mark_starts), unfolding(crate::specs::Lines::start_of))]
 pub fn text_start(text: &[u8]) -> usize
     ensures { result ≡ start_of text.now }
 {
-    if text.len() < 3 {
-        return 0;
-    }
-    if same(&text[..3], &[0xEF, 0xBB, 0xBF]) {
+    if text.starts_with(&[0xEF, 0xBB, 0xBF]) {
         3
     } else {
         0
@@ -77,13 +66,11 @@ fn word_start(s: &[u8], k: usize) -> usize
     ensures { StartsAfter s.now k result }
 {
     let mut at = run_end(s, 0, Stop::Filled);
-    let mut i: usize = 0;
-    while i < k {
+    for _ in 0..k {
         if s.len() <= at {
             return at;
         }
         at = next_word(s, at);
-        i += 1;
     }
     at
 }
@@ -94,6 +81,7 @@ fn run_count(s: &[u8]) -> usize
 {
     let mut n: usize = 0;
     let mut at = run_end(s, 0, Stop::Filled);
+    // A step is a whole word.
     while at < s.len() {
         at = next_word(s, at);
         n += 1;

@@ -34,12 +34,10 @@ fn stops(stop: Stop, b: u8) -> bool
 pub(crate) fn run_end(s: &[u8], at: usize, stop: Stop) -> usize
     ensures { result ≡ end_from (stops_at stop) s.now at }
 {
-    let mut i = at;
-    while i < s.len() {
+    for i in at..s.len() {
         if stops(stop, s[i]) {
             return i;
         }
-        i += 1;
     }
     s.len()
 }

@@ -35,6 +35,7 @@ pub struct Loudest {
 }
 
 // `shf`: the resonant length by the feeder's impedance, in quarter wavelengths.
+#[tactic(auto, unfolding(crate::specs::Active::shape))]
 fn shape_of(z0: f32) -> f32
     ensures { result ≡ shape z0 }
 {
@@ -44,6 +45,7 @@ fn shape_of(z0: f32) -> f32
 }
 
 // The lengths between which an element is active.
+#[tactic(auto, unfolding(crate::specs::Active::band))]
 pub(crate) fn band_of(z0: f32, rlambda: f32, sigma: f32, tau: f32) -> Band
     ensures { result ≡ band z0 rlambda sigma tau }
 {
@@ -59,6 +61,7 @@ pub(crate) fn band_of(z0: f32, rlambda: f32, sigma: f32, tau: f32) -> Band
 }
 
 // The list with element i at its end, where the length l of i lies in the band.
+#[tactic(auto, unfolding(crate::specs::Active::appended))]
 fn append_active(a: Active, s: Band, i: usize, l: f32) -> Active
     requires { a.nat < 35 }
     ensures { result ≡ appended a s i l }
@@ -74,6 +77,7 @@ fn append_active(a: Active, s: Band, i: usize, l: f32) -> Active
 }
 
 // The active ones of elements 1 to nel.
+#[tactic(auto, using(crate::proofs::active::Listing::active_few, crate::proofs::active::Listing::active_listed), unfolding(crate::specs::Active::active_to))]
 pub(crate) fn active_of(s: Band, rl: [f32; 36], nel: usize) -> Active
     requires { nel ≤ 30 }
     ensures value { result ≡ active_to s rl nel }
@@ -83,27 +87,22 @@ pub(crate) fn active_of(s: Band, rl: [f32; 36], nel: usize) -> Active
         iek: [0; 36],
         nat: 0,
     };
-    let mut k: usize = 0;
-    while k < nel {
-        k += 1;
-        a = append_active(a, s, k, rl[k]);
+    for k in 0..nel {
+        a = append_active(a, s, k + 1, rl[k + 1]);
     }
     a
 }
 
 // Currents and phases of the active elements by their lengths, 0 for all others.
+#[tactic(auto, using(crate::proofs::active::Listing::below), unfolding(crate::specs::Active::over_active, crate::specs::Active::excited, crate::specs::Active::currents, crate::specs::Active::phases))]
 pub(crate) fn excited_of(a: Active, s: Band, p: Curves, rl: [f32; 36]) -> Excited
     requires { Listed a.iek a.nat }
     ensures { result ≡ excited a s p rl }
 {
-    let iek = a.iek;
-    let nat = a.nat;
     let mut ria = [0.0f32; 31];
     let mut fi = [0.0f32; 36];
-    let mut k: usize = 0;
-    while k < nat {
-        k += 1;
-        let i = iek[k];
+    for k in 0..a.nat {
+        let i = a.iek[k + 1];
         ria[i] = current_of(s, p, rl[i]);
         fi[i] = phase_of(s, rl[i]);
     }
@@ -111,6 +110,7 @@ pub(crate) fn excited_of(a: Active, s: Band, p: Curves, rl: [f32; 36]) -> Excite
 }
 
 // The last of equal currents.
+#[tactic(auto, unfolding(crate::specs::Active::louder))]
 fn louder_of(m: Loudest, ria: f32, fi: f32) -> Loudest
     ensures { result ≡ louder m ria fi }
 {
@@ -124,20 +124,17 @@ fn louder_of(m: Loudest, ria: f32, fi: f32) -> Loudest
     }
 }
 
+#[tactic(auto, using(crate::proofs::active::Listing::below), unfolding(crate::specs::Active::loudest_to, crate::specs::Active::loudest))]
 pub(crate) fn loudest_of(a: Active, ria: [f32; 31], fi: [f32; 36]) -> Loudest
     requires { Listed a.iek a.nat }
     ensures { result ≡ loudest a ria fi }
 {
-    let iek = a.iek;
-    let nat = a.nat;
     let mut m = Loudest {
         riamax: 0.0,
         fimin: 0.0,
     };
-    let mut k: usize = 0;
-    while k < nat {
-        k += 1;
-        let i = iek[k];
+    for k in 0..a.nat {
+        let i = a.iek[k + 1];
         m = louder_of(m, ria[i], fi[i]);
     }
     m
@@ -145,6 +142,7 @@ pub(crate) fn loudest_of(a: Active, ria: [f32; 31], fi: [f32; 36]) -> Loudest
 
 // The currents by the largest, over the sine of the element's electrical length; the phases from
 // the largest current's.
+#[tactic(auto, using(crate::proofs::active::Listing::below), unfolding(crate::specs::Active::over_active, crate::specs::Active::normalised, crate::specs::Active::relative_phases, crate::specs::Active::strengths))]
 pub(crate) fn normalised_of(
     a: Active,
     ria: [f32; 31],
@@ -156,14 +154,10 @@ pub(crate) fn normalised_of(
     requires { Listed a.iek a.nat }
     ensures { result ≡ normalised a ria fi top beta rl }
 {
-    let iek = a.iek;
-    let nat = a.nat;
     let mut out = fi;
     let mut rim = [0.0f32; 36];
-    let mut k: usize = 0;
-    while k < nat {
-        k += 1;
-        let i = iek[k];
+    for k in 0..a.nat {
+        let i = a.iek[k + 1];
         let rinm = ria[i] / top.riamax;
         out[i] = fi[i] - top.fimin;
         rim[i] = rinm / sine::sin(beta * rl[i]);

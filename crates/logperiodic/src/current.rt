@@ -34,6 +34,7 @@ pub struct Curves {
 }
 
 // `parabol`: the parabola through three points.
+#[tactic(auto, unfolding(crate::specs::Current::parabol_of))]
 pub(crate) fn parabol(x1: f32, x2: f32, x3: f32, y1: f32, y2: f32, y3: f32) -> Parabola
     ensures { result ≡ parabol_of x1 x2 x3 y1 y2 y3 }
 {
@@ -50,6 +51,7 @@ pub(crate) fn parabol(x1: f32, x2: f32, x3: f32, y1: f32, y2: f32, y3: f32) -> P
 }
 
 // The parabola through (x2, y2) with its vertex at (x1, y1).
+#[tactic(auto, unfolding(crate::specs::Current::vertexed))]
 fn vertex_parabola(x1: f32, y1: f32, x2: f32, y2: f32) -> Parabola
     ensures { result ≡ vertexed x1 y1 x2 y2 }
 {
@@ -62,12 +64,14 @@ fn vertex_parabola(x1: f32, y1: f32, x2: f32, y2: f32) -> Parabola
 }
 
 // Half of the way from rllow to rl0.
+#[tactic(auto, unfolding(crate::specs::Current::half_way))]
 fn half_way(s: Band) -> f32
     ensures { result ≡ half_way s }
 {
     s.rllow + (s.rl0 - s.rllow) / 2.0
 }
 
+#[tactic(auto, unfolding(crate::specs::Current::three_quarters))]
 fn three_quarters(s: Band) -> f32
     ensures { result ≡ three_quarters s }
 {
@@ -75,6 +79,7 @@ fn three_quarters(s: Band) -> f32
 }
 
 // `curcal`: the current over the length.
+#[tactic(auto, unfolding(crate::specs::Current::curcal_of))]
 pub(crate) fn curcal(s: Band) -> Curves
     ensures { result ≡ curcal_of s }
 {
@@ -93,6 +98,7 @@ pub(crate) fn curcal(s: Band) -> Curves
 }
 
 // The square binds first.
+#[tactic(auto, unfolding(crate::specs::Current::height_at))]
 fn height_at(p: Parabola, l: f32) -> f32
     ensures { result ≡ height_at p l }
 {
@@ -100,6 +106,7 @@ fn height_at(p: Parabola, l: f32) -> f32
 }
 
 // The current of an element of length l; 0 where no segment holds.
+#[tactic(auto, unfolding(crate::specs::Current::current_at))]
 pub(crate) fn current_of(s: Band, p: Curves, l: f32) -> f32
     ensures { result ≡ current_at s p l }
 {
@@ -121,6 +128,7 @@ pub(crate) fn current_of(s: Band, p: Curves, l: f32) -> f32
 }
 
 // The phase's degrees per length, below rl0 and above.
+#[tactic(auto, unfolding(crate::specs::Current::slope))]
 fn slope_of(s: Band, l: f32) -> f32
     ensures { result ≡ slope s l }
 {
@@ -132,6 +140,7 @@ fn slope_of(s: Band, l: f32) -> f32
 }
 
 // The phase of an element of length l in degrees, 0 at rl0.
+#[tactic(auto, unfolding(crate::specs::Current::phase_at))]
 pub(crate) fn phase_of(s: Band, l: f32) -> f32
     ensures { result ≡ phase_at s l }
 {

@@ -41,6 +41,7 @@ pub struct Layout {
     pub sigma: f32,
 }
 
+#[tactic(auto, unfolding(crate::specs::Geometry::boom))]
 pub(crate) fn boom_of(d: Design) -> Boom
     ensures { result ≡ boom d }
 {
@@ -52,6 +53,7 @@ pub(crate) fn boom_of(d: Design) -> Boom
 }
 
 // tau: the ratio of an element's length to the next one's.
+#[tactic(auto, unfolding(crate::specs::Geometry::taper))]
 pub(crate) fn taper_of(d: Design, nel: usize) -> f32
     requires { nel ≤ 30 }
     ensures { result ≡ taper d nel }
@@ -62,22 +64,21 @@ pub(crate) fn taper_of(d: Design, nel: usize) -> f32
 }
 
 // The lengths, from the longest down.
+#[tactic(auto, unfolding(crate::specs::Geometry::lengths_to, crate::specs::Geometry::lengths))]
 fn lengths_of(nel: usize, rlnel: f32, tau: f32) -> [f32; 36]
     requires { (2 ≤ nel) × (nel ≤ 30) }
     ensures { result ≡ lengths nel rlnel tau }
 {
     let mut rl = [0.0f32; 36];
     rl[nel] = rlnel;
-    let mut k: usize = 0;
-    while k < nel - 1 {
-        let l = rl[nel - k];
-        rl[nel - (k + 1)] = l * tau;
-        k += 1;
+    for k in (1..nel).rev() {
+        rl[k] = rl[k + 1] * tau;
     }
     rl
 }
 
 // From an element of length l to the shorter one next to it.
+#[tactic(auto, unfolding(crate::specs::Geometry::spacing))]
 fn spacing_of(l: f32, sigma: f32) -> f32
     ensures { result ≡ spacing l sigma }
 {
@@ -86,19 +87,18 @@ fn spacing_of(l: f32, sigma: f32) -> f32
 
 // Places of elements 1 to nel in one direction: the first at start, each next one a spacing times
 // step further.
+#[tactic(auto, unfolding(crate::specs::Geometry::along_to, crate::specs::Geometry::along))]
 fn place_along(p: &mut [f32], nel: usize, start: f32, step: f32, rl: [f32; 36], sigma: f32)
     requires { (1 ≤ nel) × (nel ≤ 30) × (nel < length p.old) }
     ensures { p.new ≡ along p.old nel start step rl sigma }
 {
     p[1] = start;
-    let mut k: usize = 0;
-    while k < nel - 1 {
-        k += 1;
-        let d = spacing_of(rl[k + 1], sigma);
-        p[k + 1] = p[k] + d * step;
+    for k in 1..nel {
+        p[k + 1] = p[k] + spacing_of(rl[k + 1], sigma) * step;
     }
 }
 
+#[tactic(auto, unfolding(crate::specs::Geometry::apex))]
 fn apex_of(d: Design, tau: f32, b: Boom) -> Apex
     ensures { result ≡ apex d tau b }
 {
@@ -119,20 +119,20 @@ fn apex_of(d: Design, tau: f32, b: Boom) -> Apex
 }
 
 // The heights of a vertical antenna's elements. The longest stands on its foot, without h0.
+#[tactic(auto, unfolding(crate::specs::Geometry::raised_to, crate::specs::Geometry::raised))]
 fn raised_of(nel: usize, rl: [f32; 36], theta: f32, h0: f32) -> [f32; 31]
     requires { (2 ≤ nel) × (nel ≤ 30) }
     ensures { result ≡ raised nel rl theta h0 }
 {
     let mut h = [0.0f32; 31];
     h[nel] = rl[nel] * (1.0 + theta);
-    let mut k: usize = 0;
-    while k < nel - 1 {
-        k += 1;
+    for k in 1..nel {
         h[k] = rl[k] * (1.0 + theta) + h0;
     }
     h
 }
 
+#[tactic(auto, unfolding(crate::specs::Geometry::vertical))]
 fn vertical_layout(d: Design, nel: usize, tau: f32, b: Boom) -> Layout
     requires { (2 ≤ nel) × (nel ≤ 30) }
     ensures { result ≡ vertical d nel tau b }
@@ -153,6 +153,7 @@ fn vertical_layout(d: Design, nel: usize, tau: f32, b: Boom) -> Layout
     }
 }
 
+#[tactic(auto, unfolding(crate::specs::Geometry::horizontal))]
 fn horizontal_layout(d: Design, nel: usize, tau: f32, b: Boom) -> Layout
     requires { (2 ≤ nel) × (nel ≤ 30) }
     ensures { result ≡ horizontal d nel tau b }
@@ -175,6 +176,7 @@ fn horizontal_layout(d: Design, nel: usize, tau: f32, b: Boom) -> Layout
 }
 
 // Type 5 is horizontal, type 6 vertical.
+#[tactic(auto, unfolding(crate::specs::Geometry::layout))]
 pub(crate) fn layout_of(iant: u32, d: Design, nel: usize, tau: f32, b: Boom) -> Layout
     requires { (2 ≤ nel) × (nel ≤ 30) }
     ensures { result ≡ layout iant d nel tau b }

@@ -16,20 +16,21 @@ pub struct LogPeriodic {
     pub boom: Boom,
 }
 
+#[tactic(auto, unfolding(crate::specs::LogPeriodic::fed))]
 fn feed_of(a: Active, s: Band, rl: [f32; 36], beta: f32) -> Feed
     requires { Listed a.iek a.nat }
     ensures { result ≡ fed a s rl beta }
 {
     let x = excited_of(a, s, curcal(s), rl);
-    let ria = x.ria;
-    let fi = x.fi;
-    let top = loudest_of(a, ria, fi);
-    normalised_of(a, ria, fi, top, beta, rl)
+    let top = loudest_of(a, x.ria, x.fi);
+    normalised_of(a, x.ria, x.fi, top, beta, rl)
 }
 
+#[tactic(auto, unfolding(crate::specs::LogPeriodic::elements))]
 fn elements_of(t: Layout, a: Active, f: Feed) -> Elements
     ensures { result ≡ elements t a f }
 {
+    // the borrow checker takes no array straight from field to field
     let fi = f.fi;
     let rim = f.rim;
     let x = t.x;
@@ -51,6 +52,7 @@ fn elements_of(t: Layout, a: Active, f: Feed) -> Elements
 
 // Inner step of set-up, for the counts of elements that it accepts: the elements of a design of nel
 // elements at the wavelength rlambda, whose phase per metre is beta.
+#[tactic(auto, unfolding(crate::specs::LogPeriodic::log_parm, crate::specs::LogPeriodic::elements))]
 pub fn logparm(iant: u32, nel: usize, d: Design, rlambda: f32, beta: f32) -> LogPeriodic
     requires { (2 ≤ nel) × (nel ≤ 30) }
     ensures value { result ≡ log_parm iant nel d rlambda beta }
@@ -59,10 +61,9 @@ pub fn logparm(iant: u32, nel: usize, d: Design, rlambda: f32, beta: f32) -> Log
     let boom = boom_of(d);
     let tau = taper_of(d, nel);
     let t = layout_of(iant, d, nel, tau, boom);
-    let rl = t.rl;
     let s = band_of(d.z0, rlambda, t.sigma, tau);
-    let a = active_of(s, rl, nel);
-    let f = feed_of(a, s, rl, beta);
+    let a = active_of(s, t.rl, nel);
+    let f = feed_of(a, s, t.rl, beta);
     LogPeriodic {
         elements: elements_of(t, a, f),
         boom,

@@ -10,9 +10,6 @@ use Rattle.answers.specs.Refusals.{LEVEL}
 use Rattle.interpolation.specs.Literals.{n0·7, n1·4}
 use Rattle.maxgain.specs.Refusals.{refusal_of}
 use Rattle.interpolation.specs.Interpolation.{gain_ter_b, gain_terp}
-use Rattle.maxgain.specs.declared.maximum.Answer.{Answer}
-use Rattle.maxgain.specs.declared.maximum.Answer.TheVariants.{Gain, Refused}
-use Rattle.maxgain.specs.declared.maximum.Maximum.{Maximum}
 use Rattle.maxgain.specs.declared.maximum.Found.{Found}
 use Rattle.maxgain.specs.declared.maximum.Tuning.{Tuning}
 
@@ -56,25 +53,15 @@ found mode iant parm gainmax gainmaxb mhz design =
 
 -- ---- the answer
 
+abbrev pub gain_and_parm : Found → Float × List Float
+gain_and_parm f = (f.gain, f.parm)
+
 -- the gain with the parameters; a gain that isn't finite is refused
 unfoldable pub graded : Found → Outcome (Float × List Float)
-graded f = cond (not (finite f.gain)) (refused LEVEL) (accepted (f.gain, f.parm))
+graded f = cond (not (finite f.gain)) (refused LEVEL) (accepted (gain_and_parm f))
 
 -- lowest number first
 unfoldable pub set_max_gain : ℕ → List Float → List Float → List Float → Float → Float → Outcome (Float × List Float)
 set_max_gain mode parm gainmax gainmaxb mhz design =
     let number = refusal_of mode parm gainmax gainmaxb mhz design in
     cond (ltb 0 number) (refused number) (graded (found mode (jant_of (at parm 1)) parm gainmax gainmaxb mhz design))
-
--- what each case of the answer says: a gain with the parameters beside it, or a refusal's number alone
-unfoldable pub maximum_answer : Maximum → Outcome (Float × List Float)
-maximum_answer m = said m.answer m.parm
-  where
-    said : Answer → List Float → Outcome (Float × List Float)
-    said (Gain g) parm = accepted (g, parm)
-    said (Refused n) parm = refused n
-
--- the parameters beside the answer: the gain's own, or after a refusal those that were given
-unfoldable pub kept_after : Outcome (Float × List Float) → List Float → List Float
-kept_after (refused n) parm = parm
-kept_after (accepted m) parm = m.1

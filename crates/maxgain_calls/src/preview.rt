@@ -1,60 +1,58 @@
 // What the maximum gain would write, floats in and words out.
 ghost use Rattle.std.specs.Prelude.{◌≡◌, length};
-ghost use Rattle.maxgain_preview.specs.Preview.{preview_answer};
+ghost use Rattle.answers.specs.Outcome.{outcome};
 ghost use Rattle.packed.specs.Lists.{left};
 ghost use Rattle.maxgain_calls.specs.Preview.{shown_words, preview_words, preview_call};
 
-use maxgain_preview::{Answer, Shown};
+use crate::{number_of, station_at};
+use answers::Refusal;
+use maxgain_preview::Shown;
 use numeric::bits::bits_of;
-use packed::arrays::{gainmax_at, gainmaxb_at, parm_at};
-use packed::lent::mode_of;
 
 // The gain's bits, then each slot's mark and bits.
+#[tactic(auto, unfolding(crate::specs::Preview::shown_words))]
 fn put_shown(s: Shown, out: &mut [u32])
     requires { length out.old ≡ 7 }
     ensures { out.new ≡ shown_words s }
 {
-    out[0] = bits_of(s.gain);
-    out[1] = s.slot4.written as u32;
-    out[2] = bits_of(s.slot4.value);
-    out[3] = s.slot5.written as u32;
-    out[4] = bits_of(s.slot5.value);
-    out[5] = s.slot7.written as u32;
-    out[6] = bits_of(s.slot7.value);
+    let words = [
+        bits_of(s.gain),
+        u32::from(s.slot4.written),
+        bits_of(s.slot4.value),
+        u32::from(s.slot5.written),
+        bits_of(s.slot5.value),
+        u32::from(s.slot7.written),
+        bits_of(s.slot7.value),
+    ];
+    out.copy_from_slice(&words);
 }
 
 // What is shown in the lent words; a refusal leaves them as they were.
-fn put_preview(a: Answer, out: &mut [u32]) -> u32
+#[tactic(auto, unfolding(crate::specs::Preview::preview_words))]
+fn put_preview(shown: Result<Shown, Refusal>, out: &mut [u32]) -> u32
     requires { length out.old ≡ 7 }
-    ensures { left result out.new ≡ preview_words (preview_answer a) out.old }
+    ensures { left result out.new ≡ preview_words (outcome shown) out.old }
 {
-    match a {
-        Answer::Refused(n) => n as u32,
-        Answer::Accepted(s) => {
+    match shown {
+        Ok(s) => {
             put_shown(s, out);
             0
         }
+        Err(r) => number_of(r),
     }
 }
 
 // What `maxgain` would do with the same floats: 0, with the gain and slots 4, 5 and 7 in 7 words;
 // or its refusal, and 8 first for slices of other lengths.
+#[tactic(auto, unfolding(crate::specs::Preview::preview_call, crate::specs::Preview::preview_from))]
 pub fn preview(mode: u32, floats: &[f32], out: &mut [u32]) -> u32
     ensures { left result out.new ≡ preview_call mode floats.now out.old }
 {
-    if floats.len() != 58 {
-        return 8;
+    if (floats.len() != 58) | (out.len() != 7) {
+        return number_of(Refusal::Space);
     }
-    if out.len() != 7 {
-        return 8;
-    }
-    let parm = parm_at(floats, 0);
-    let gainmax = gainmax_at(floats, 20);
-    let gainmaxb = gainmaxb_at(floats, 26);
-    let mhz = floats[56];
-    let design = floats[57];
     put_preview(
-        maxgain_preview::preview(mode_of(mode), parm, gainmax, gainmaxb, mhz, design),
+        maxgain_preview::preview(station_at(mode, floats), floats[56], floats[57]),
         out,
     )
 }

@@ -11,8 +11,6 @@ use Rattle.maxgain.specs.Maximum.{tuned}
 use Rattle.maxgain.specs.declared.maximum.Tuning.{Tuning}
 use Rattle.maxgain_preview.specs.declared.Slot.{Slot}
 use Rattle.maxgain_preview.specs.declared.Shown.{Shown}
-use Rattle.maxgain_preview.specs.declared.Answer.{Answer}
-use Rattle.maxgain_preview.specs.declared.Answer.TheVariants.{Accepted, Refused}
 
 -- ---- a slot
 
@@ -73,8 +71,3 @@ marked_by mode gain parm after =
       slot5 = cond (eqb mode 1 && eqb (jant_of (at parm 1)) 8) (written_slot (at after 5)) (kept_slot (at parm 5));
       slot7 = cond (eqb mode 1) (written_slot (at after 7)) (kept_slot (at parm 7));
     }
-
--- what each case of the answer says
-abbrev pub preview_answer : Answer → Outcome Shown
-preview_answer (Accepted s) = accepted s
-preview_answer (Refused n) = refused n

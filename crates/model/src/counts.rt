@@ -5,6 +5,7 @@ ghost use Rattle.model.specs.Counts.{count_ok, element_ok, elements_ok, counts_o
 use crate::record::Model;
 
 // A float count of 0 to 64.
+#[tactic(auto, unfolding(crate::specs::Counts::count_ok))]
 pub fn count_ok(x: f32) -> bool
     ensures { result ≡ count_ok x }
 {
@@ -12,6 +13,7 @@ pub fn count_ok(x: f32) -> bool
 }
 
 // An element's number.
+#[tactic(auto, unfolding(crate::specs::Counts::element_ok))]
 fn element_ok(i: usize) -> bool
     ensures { result ≡ element_ok i }
 {
@@ -23,17 +25,11 @@ fn elements_ok(iek: [usize; 36], n: usize) -> bool
     requires { n ≤ 30 }
     ensures { result ≡ elements_ok iek n }
 {
-    let mut ok = true;
-    let mut k: usize = 0;
-    while k < n {
-        k += 1;
-        let i = iek[k];
-        ok = ok & element_ok(i);
-    }
-    ok
+    iek[1..n + 1].iter().all(|i| element_ok(*i))
 }
 
 // Whether a record's loops may run: its float counts, and the list of its active elements.
+#[tactic(auto, unfolding(crate::specs::Counts::counts_ok))]
 pub fn counts_ok(m: Model) -> bool
     ensures { result ≡ counts_ok m }
 {

@@ -11,6 +11,7 @@ pub const PART: usize = 91 * ROW;
 pub const SIZE: usize = 4 * PART;
 
 // A table of zeros.
+#[tactic(auto, unfolding(crate::specs::Table::blank_table))]
 pub fn blank_table() -> [f32; SIZE]
     ensures { result ≡ blank_table }
 {

@@ -5,20 +5,22 @@ ghost use Rattle.model.specs.Types.{jant_of, type_ok, array_type, log_periodic, 
 use floats::rounding::nint;
 
 // `jant`: the antenna's type by its slot, 0 for a number below 0.
+#[tactic(auto, unfolding(crate::specs::Types::jant_of))]
 pub fn jant(slot: f32) -> u32
     ensures { result ≡ jant_of slot }
 {
-    let n = nint(slot);
-    if n < 0 { 0 } else { n as u32 }
+    nint(slot).max(0) as u32
 }
 
+#[tactic(auto, unfolding(crate::specs::Types::type_ok))]
 pub fn type_ok(iant: u32) -> bool
     ensures { result ≡ type_ok iant }
 {
-    (1 <= iant) & (iant <= 9)
+    matches!(iant, 1..=9)
 }
 
 // The dipole arrays, types 1 to 4.
+#[tactic(auto, unfolding(crate::specs::Types::array_type))]
 pub fn array_type(iant: u32) -> bool
     ensures { result ≡ array_type iant }
 {
@@ -26,15 +28,17 @@ pub fn array_type(iant: u32) -> bool
 }
 
 // Types 5 and 6.
+#[tactic(auto, unfolding(crate::specs::Types::log_periodic))]
 pub fn log_periodic(iant: u32) -> bool
     ensures { result ≡ log_periodic iant }
 {
-    (iant == 5) | (iant == 6)
+    matches!(iant, 5 | 6)
 }
 
 // The quadrant antenna and the crossed dipoles, types 8 and 9.
+#[tactic(auto, unfolding(crate::specs::Types::crossed_type))]
 pub fn crossed_type(iant: u32) -> bool
     ensures { result ≡ crossed_type iant }
 {
-    (iant == 8) | (iant == 9)
+    matches!(iant, 8 | 9)
 }

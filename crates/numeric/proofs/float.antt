@@ -1,3 +1,2 @@
--- Signs and casts: the sign bit (`SignBit`), and a float as an integer, cut to the integer's range (`Saturated`).
+-- Signs: the sign bit (`SignBit`).
 pub mod SignBit
-mod Saturated

@@ -7,8 +7,31 @@
 pub mod arrays;
 pub mod lent;
 
+ghost use Rattle.std.specs.Prelude.{◌≡◌};
+ghost use Rattle.answers.specs.Outcome.{number, number_of};
+ghost use Rattle.packed.specs.Packed.{refused_as};
+
+use answers::Refusal;
+
 // Refused, with the number.
 pub const REFUSED: u64 = 0x3_0000_0000;
 
 // Refused, with the number times 65,536 and a place.
 pub const REFUSED_AT: u64 = 0x4_0000_0000;
+
+// Kind 3 with the refusal's number.
+pub fn refused(r: Refusal) -> u64
+    ensures { result ≡ refused_as (number r) }
+{
+    REFUSED + u8::from(r) as u64
+}
+
+// 0, or the refusal's number.
+pub fn status(answer: Result<(), Refusal>) -> u32
+    ensures { result ≡ number_of answer }
+{
+    match answer {
+        Ok(()) => 0,
+        Err(r) => u8::from(r) as u32,
+    }
+}

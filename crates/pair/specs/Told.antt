@@ -1,5 +1,8 @@
 -- Issue 27: "with a legend and a table": what is told of two masts. Definitions only.
-use Rattle.std.specs.Prelude.{ℕ, ◌||◌, List, ◌++◌, ltb, eqb, get_or}
+use Rattle.std.specs.Prelude.{ℕ, ◌||◌, List, ◌++◌, get_or}
+use Rattle.answers.specs.declared.Kind.{Kind}
+use Rattle.answers.specs.declared.Kind.TheVariants as kind
+use Rattle.dial.specs.Kinds.{is_floor, is_silence}
 use Rattle.dial.specs.Scale.{peak_azimuth, peak_of}
 use Rattle.figures.specs.Figures.{behind_of, beam_of, leads_of}
 use Rattle.curve.specs.Curve.{has_floor}
@@ -9,10 +12,10 @@ use Rattle.table.specs.Table.{table_text}
 use Rattle.table.specs.declared.column.Figures.{Figures}
 
 -- a row is silent where its first entry is, and all floors where its peak is one
-unfoldable pub figures_of : List ℕ → List ℕ → List ℕ → Figures
+unfoldable pub figures_of : List ℕ → List Kind → List ℕ → Figures
 figures_of numbers kinds other = record {
-  silent = ltb 1 (get_or kinds 0 0);
-  floor = eqb (get_or kinds (peak_azimuth numbers) 0) 1;
+  silent = is_silence (get_or kinds 0 kind.Level);
+  floor = is_floor (get_or kinds (peak_azimuth numbers) kind.Level);
   azimuth = peak_azimuth numbers;
   peak = peak_of numbers;
   beam = beam_of numbers;
@@ -21,7 +24,7 @@ figures_of numbers kinds other = record {
   leads = leads_of numbers kinds other;
 }
 
-unfoldable pub told_text : List ℕ → List ℕ → Heading → List ℕ → List ℕ → Heading → List ℕ
+unfoldable pub told_text : List ℕ → List Kind → Heading → List ℕ → List Kind → Heading → List ℕ
 told_text first first_kinds h second second_kinds i =
     legend_text h.antenna i.antenna
     ++ dashed_text (has_floor first_kinds || has_floor second_kinds)

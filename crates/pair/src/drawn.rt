@@ -3,8 +3,9 @@ ghost use Rattle.std.specs.Prelude.{◌+◌, ◌≤◌, length};
 ghost use Rattle.labels.specs.Writing.{Put};
 ghost use Rattle.pair.specs.Drawn.{open_text, mast_text, masts_text, drawn_text};
 
+use answers::Kind;
 use captions::push_winds;
-use curve::push_stroke;
+use curve::{Stroke, push_stroke};
 use rings::{push_labels, push_scale, stands_within};
 use words::bytes::push_bytes;
 
@@ -31,15 +32,33 @@ fn push_mast(
     opening: &[u8],
     floors: &[u8],
     numbers: &[u32; 360],
-    kinds: &[u8; 360],
+    kinds: &[Kind; 360],
     peak: u32,
 ) -> usize
     requires { (at + 35000 ≤ length out.old) × (length opening.now ≤ 110) × (length floors.now ≤ 90) × (peak ≤ 200000) }
     ensures { Put 35000 out.old at (mast_text opening.now floors.now numbers.now kinds.now peak) out.new result }
 {
     let levels_at = push_bytes(out, at, opening);
-    let floors_at = push_stroke(out, levels_at, b"<path d='", numbers, kinds, false, peak, 0);
-    let end = push_stroke(out, floors_at, floors, numbers, kinds, false, peak, 2);
+    let floors_at = push_stroke(
+        out,
+        levels_at,
+        b"<path d='",
+        numbers,
+        kinds,
+        false,
+        peak,
+        Stroke::Levels,
+    );
+    let end = push_stroke(
+        out,
+        floors_at,
+        floors,
+        numbers,
+        kinds,
+        false,
+        peak,
+        Stroke::Floors,
+    );
     push_bytes(out, end, b"</g>\n")
 }
 
@@ -48,9 +67,9 @@ fn push_masts(
     out: &mut [u8],
     at: usize,
     first: &[u32; 360],
-    first_kinds: &[u8; 360],
+    first_kinds: &[Kind; 360],
     second: &[u32; 360],
-    second_kinds: &[u8; 360],
+    second_kinds: &[Kind; 360],
     peak: u32,
 ) -> usize
     requires { (at + 70000 ≤ length out.old) × (peak ≤ 200000) }
@@ -81,9 +100,9 @@ pub fn push_drawn(
     out: &mut [u8],
     at: usize,
     first: &[u32; 360],
-    first_kinds: &[u8; 360],
+    first_kinds: &[Kind; 360],
     second: &[u32; 360],
-    second_kinds: &[u8; 360],
+    second_kinds: &[Kind; 360],
     peak: u32,
 ) -> usize
     requires { (at + 71480 ≤ length out.old) × (peak ≤ 200000) }

@@ -12,6 +12,7 @@ ghost use Rattle.words.specs.Writing.{Wrote};
 ghost use Rattle.labels.specs.Writing.{Put};
 ghost use Rattle.pair.specs.Pair.{greater_peak, pair_of, pair_in};
 
+use answers::Kind;
 use captions::Heading;
 use drawn::push_drawn;
 use told::{greater_peak, push_told};
@@ -20,10 +21,10 @@ use words::bytes::push_bytes;
 fn push_pair(
     out: &mut [u8],
     first: &[u32; 360],
-    first_kinds: &[u8; 360],
+    first_kinds: &[Kind; 360],
     first_heading: Heading,
     second: &[u32; 360],
-    second_kinds: &[u8; 360],
+    second_kinds: &[Kind; 360],
     second_heading: Heading,
     peak: u32,
 ) -> usize
@@ -44,15 +45,15 @@ fn push_pair(
     push_bytes(out, end, b"</svg>\n")
 }
 
-// Writes the picture of two rows, their numbers in raised hundredths of dBi and their kinds (0 level, 1
-// floor, 2 silence), from the buffer's start on, and returns its length. A buffer of under 131,072 bytes
-// gets nothing, nor do rows one of whose peaks is over 1,000 dBi.
+// Writes the picture of two rows, their numbers in raised hundredths of dBi and their kinds, from the
+// buffer's start on, and returns its length. A buffer of under 131,072 bytes gets nothing, nor do rows
+// one of whose peaks is over 1,000 dBi.
 pub fn pair(
     first: &[u32; 360],
-    first_kinds: &[u8; 360],
+    first_kinds: &[Kind; 360],
     first_heading: Heading,
     second: &[u32; 360],
-    second_kinds: &[u8; 360],
+    second_kinds: &[Kind; 360],
     second_heading: Heading,
     out: &mut [u8],
 ) -> usize

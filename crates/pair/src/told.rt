@@ -5,6 +5,7 @@ ghost use Rattle.dial.specs.Scale.{peak_of};
 ghost use Rattle.pair.specs.Pair.{greater_peak};
 ghost use Rattle.pair.specs.Told.{figures_of, told_text};
 
+use answers::Kind;
 use captions::Heading;
 use curve::has_floor;
 use dial::peak_azimuth;
@@ -12,6 +13,7 @@ use figures::{beam, behind, leads};
 use table::column::{Figures, push_table};
 use table::legend::{push_dashed, push_legend};
 
+#[tactic(auto, unfolding(dial::specs::Scale::peak_of))]
 fn peak(numbers: &[u32; 360]) -> u32
     ensures { result ≡ peak_of numbers.now }
 {
@@ -19,16 +21,16 @@ fn peak(numbers: &[u32; 360]) -> u32
 }
 
 // Inner step: the greater of two rows' peaks.
+#[tactic(auto, unfolding(crate::specs::Pair::greater_peak))]
 pub fn greater_peak(first: &[u32; 360], second: &[u32; 360]) -> u32
     ensures { result ≡ greater_peak first.now second.now }
 {
-    let p = peak(first);
-    let q = peak(second);
-    if p < q { q } else { p }
+    peak(first).max(peak(second))
 }
 
 // What is known of a row beside the other mast's.
-fn figures_of(numbers: &[u32; 360], kinds: &[u8; 360], other: &[u32; 360]) -> Figures
+#[tactic(auto, unfolding(crate::specs::Told::figures_of, dial::specs::Scale::peak_of))]
+fn figures_of(numbers: &[u32; 360], kinds: &[Kind; 360], other: &[u32; 360]) -> Figures
     ensures { result ≡ figures_of numbers.now kinds.now other.now }
 {
     let azimuth = peak_azimuth(numbers);
@@ -36,8 +38,8 @@ fn figures_of(numbers: &[u32; 360], kinds: &[u8; 360], other: &[u32; 360]) -> Fi
     let width = beam(numbers);
     let led = leads(numbers, kinds, other);
     Figures {
-        silent: 1 < kinds[0],
-        floor: kinds[azimuth] == 1,
+        silent: matches!(kinds[0], Kind::Silence),
+        floor: matches!(kinds[azimuth], Kind::Floor),
         azimuth: azimuth as u32,
         peak: numbers[azimuth],
         beam: width as u32,
@@ -52,10 +54,10 @@ pub fn push_told(
     out: &mut [u8],
     at: usize,
     first: &[u32; 360],
-    first_kinds: &[u8; 360],
+    first_kinds: &[Kind; 360],
     first_heading: Heading,
     second: &[u32; 360],
-    second_kinds: &[u8; 360],
+    second_kinds: &[Kind; 360],
     second_heading: Heading,
 ) -> usize
     requires { at + 1412 ≤ length out.old }

@@ -1,4 +1,7 @@
 // The constants of each type, as the source's `antinit2` sets them from the twenty parameters.
+
+#![tactic(auto, unfolding(crate::specs::TypeConstants::number, crate::specs::TypeConstants::given, crate::specs::TypeConstants::constants_with, crate::specs::TypeConstants::wave_constants, crate::specs::TypeConstants::screen_of, crate::specs::TypeConstants::array_own, crate::specs::TypeConstants::boom_own, crate::specs::TypeConstants::rhombic_own, crate::specs::TypeConstants::crossed_own, crate::specs::TypeConstants::own_of, crate::specs::TypeConstants::constants_of))]
+
 ghost use Rattle.std.specs.Prelude.{◌≡◌};
 ghost use Rattle.parameters.specs.TypeConstants.{rlambda_of, constants_with, wave_constants, screen_of, array_own, boom_own, rhombic_own, crossed_own, constants_of};
 
@@ -83,17 +86,15 @@ fn array_constants(iant: u32, p: [f32; 20]) -> Constants
     ensures { result ≡ constants_with p (array_own iant p) }
 {
     let k = dipole_constants(p);
-    if iant == 1 {
-        return Constants {
+    match iant {
+        1 => Constants {
             p11s: 8.0 * k.p11 * p[10],
             fr1: screen(p),
             ..k
-        };
+        },
+        2 | 3 => Constants { q2: p[10], ..k },
+        _ => k,
     }
-    if (iant == 2) | (iant == 3) {
-        return Constants { q2: p[10], ..k };
-    }
-    k
 }
 
 fn boom_constants(p: [f32; 20], b: Boom) -> Constants

@@ -1,2 +1,3 @@
--- What `gainrel` reads of its table (`gain_rel_table`).
+-- What `gainrel` reads of its table (`gain_rel_table`); a type that is none.
 pub mod TableStart
+mod Untyped

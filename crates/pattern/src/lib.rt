@@ -5,9 +5,7 @@
 // at least `table_size` floats, every elevation and azimuth. Theorems on it: `gain_rel-mirror` (the
 // mirror law over the whole azimuths, types 1 to 6), `gain_rel_crossed` (type 9), `gain_rel_table`
 // (the table's first `table_size` floats are all that it reads). `passes::around` and `passes::up`
-// are its answers around one elevation and up at one azimuth (`around_at`, `up_at`), for which the
-// record is copied once. A caller with a loop of its own at one elevation takes `aspect::aspect_at`
-// once, and `aspect::reading` for each azimuth.
-pub mod aspect;
+// are its answers around one elevation and up at one azimuth (`around_at`, `up_at`). The record is
+// lent to all three, and never copied.
 pub mod gainrel;
 pub mod passes;

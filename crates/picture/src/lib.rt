@@ -10,6 +10,7 @@ ghost use Rattle.words.specs.Writing.{Wrote};
 ghost use Rattle.labels.specs.Writing.{Put};
 ghost use Rattle.picture.specs.Picture.{AtPeak, open_text, beside_text, peak_text, told_text, drawn_text, silent_text, body_text, picture_of, picture_in, refusal_of, refusal_in};
 
+use answers::Kind;
 use captions::{
     Heading, push_all_floor, push_dashed_key, push_dot, push_fold_key, push_foot, push_head,
     push_mast, push_sentence, push_silence, push_winds,
@@ -54,7 +55,7 @@ fn push_peak(
     out: &mut [u8],
     at: usize,
     numbers: &[u32; 360],
-    kinds: &[u8; 360],
+    kinds: &[Kind; 360],
     azimuth: usize,
     peak: u32,
 ) -> usize
@@ -71,21 +72,22 @@ fn push_peak(
 }
 
 // The peak, or that it is a floor.
+#[tactic(auto, using(labels::proofs::Put::more, dial::proofs::OtherKinds::no_floor), unfolding(crate::specs::Picture::told_text))]
 fn push_told(
     out: &mut [u8],
     at: usize,
     numbers: &[u32; 360],
-    kinds: &[u8; 360],
+    kinds: &[Kind; 360],
     azimuth: usize,
     peak: u32,
 ) -> usize
     requires { (at + 310 ≤ length out.old) × (azimuth < 360) × (peak ≤ 200000) }
     ensures { Put 310 out.old at (told_text numbers.now kinds.now azimuth peak) out.new result }
 {
-    if kinds[azimuth] == 1 {
-        return push_all_floor(out, at);
+    match kinds[azimuth] {
+        Kind::Floor => push_all_floor(out, at),
+        _ => push_peak(out, at, numbers, kinds, azimuth, peak),
     }
-    push_peak(out, at, numbers, kinds, azimuth, peak)
 }
 
 // The curve, and all words.
@@ -93,7 +95,7 @@ fn push_drawn(
     out: &mut [u8],
     at: usize,
     numbers: &[u32; 360],
-    kinds: &[u8; 360],
+    kinds: &[Kind; 360],
     fold: bool,
     azimuth: usize,
     peak: u32,
@@ -118,11 +120,12 @@ fn push_silent(out: &mut [u8], at: usize, numbers: &[u32; 360], peak: u32, h: He
 }
 
 // What stands on the plate.
+#[tactic(auto, using(labels::proofs::Put::more, dial::proofs::OtherKinds::no_silence), unfolding(crate::specs::Picture::body_text))]
 fn push_body(
     out: &mut [u8],
     at: usize,
     numbers: &[u32; 360],
-    kinds: &[u8; 360],
+    kinds: &[Kind; 360],
     fold: bool,
     azimuth: usize,
     peak: u32,
@@ -131,16 +134,16 @@ fn push_body(
     requires { (at + 53790 ≤ length out.old) × (azimuth < 360) × (peak ≤ 200000) }
     ensures { Put 53790 out.old at (body_text numbers.now kinds.now fold azimuth peak h) out.new result }
 {
-    if 1 < kinds[0] {
-        return push_silent(out, at, numbers, peak, h);
+    match kinds[0] {
+        Kind::Silence => push_silent(out, at, numbers, peak, h),
+        _ => push_drawn(out, at, numbers, kinds, fold, azimuth, peak, h),
     }
-    push_drawn(out, at, numbers, kinds, fold, azimuth, peak, h)
 }
 
 fn push_picture(
     out: &mut [u8],
     numbers: &[u32; 360],
-    kinds: &[u8; 360],
+    kinds: &[Kind; 360],
     fold: bool,
     azimuth: usize,
     peak: u32,
@@ -155,13 +158,12 @@ fn push_picture(
     push_bytes(out, end, b"</svg>\n")
 }
 
-// Writes the picture of a row, its numbers in raised hundredths of dBi and its kinds (0 level, 1
-// floor, more a silence), from the buffer's start on, and returns its length. `fold` shows apart what
-// the mirror law folds over. A buffer of under 65,536 bytes gets nothing, nor does a row whose peak is
-// over 1,000 dBi.
+// Writes the picture of a row, its numbers in raised hundredths of dBi and its kinds, from the
+// buffer's start on, and returns its length. `fold` shows apart what the mirror law folds over. A buffer
+// of under 65,536 bytes gets nothing, nor does a row whose peak is over 1,000 dBi.
 pub fn picture(
     numbers: &[u32; 360],
-    kinds: &[u8; 360],
+    kinds: &[Kind; 360],
     fold: bool,
     h: Heading,
     out: &mut [u8],

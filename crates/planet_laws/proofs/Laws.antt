@@ -19,7 +19,7 @@ use Rattle.words.proofs.Laid.{laid_front}
 use Rattle.model.specs.Limits.{slot}
 use Rattle.model.specs.Table.{table_size, blank_table}
 use Rattle.model.specs.Types.{jant_of}
-use Rattle.antenna.specs.Gain.{Kind}
+use Rattle.answers.specs.declared.Kind.{Kind}
 use Rattle.plate_row.specs.Row as row
 use Rattle.antenna_laws.proofs.Mirror.{gain-mirror}
 use Rattle.hundredths.specs.Hundredths.{hundredths_of}

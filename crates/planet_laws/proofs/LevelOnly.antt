@@ -19,7 +19,8 @@ use Rattle.answers.proofs.Outcome.{passed}
 use Rattle.model.specs.Table.{table_size, blank_table}
 use Rattle.antenna.specs.declared.record.Antenna.{Antenna}
 use Rattle.antenna.specs.Asked.{asked_refusal}
-use Rattle.antenna.specs.Gain.{Kind, graded}
+use Rattle.answers.specs.declared.Kind.{Kind}
+use Rattle.antenna.specs.Gain.{graded}
 use Rattle.plate_row.specs.Row.{row_asked, row_of}
 use Rattle.antenna.specs.TableSum.{own_table}
 use Rattle.antenna_laws.proofs.Answered.{gain-answered}

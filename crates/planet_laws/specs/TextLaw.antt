@@ -7,7 +7,7 @@ use Rattle.answers.specs.Outcome.{Outcome, accepted}
 use Rattle.model.specs.Limits.{slot}
 use Rattle.model.specs.Table.{table_size, blank_table}
 use Rattle.model.specs.Types.{jant_of}
-use Rattle.antenna.specs.Gain.{Kind}
+use Rattle.answers.specs.declared.Kind.{Kind}
 use Rattle.plate_row.specs.Row as row
 use Rattle.hundredths.specs.Hundredths.{hundredths_of}
 use Rattle.request.specs.declared.Request.{Request}

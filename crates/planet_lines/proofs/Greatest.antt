@@ -1,17 +1,18 @@
 -- Numbers in span: the greatest of their hundredths, raised as the code holds it, and what an entry loses to it. Assumes nothing.
 use Prim.Native.Nat.{ℕ, zero, suc, ◌-◌, ◌≤◌, ◌<◌, max}
 use mathlib.Core.Path.{◌≡◌, refl, sym, ap, subst, ◌∙◌}
-use mathlib.Core.Bool.{Bool, true, false, cond}
+use mathlib.Core.Bool.{Bool, true, false, cond, true≢false}
 use mathlib.Core.List.{List}
 use mathlib.Core.Logic.{⊎_elim}
 use native.Mathlib.Nat.{eq-or-lt_of_le, le_refl, zero-add}
 use native.Mathlib.Omega.{arith}
 use borrow.Author.Tests.{lt-ltb, leb-true, leb-false}
-use lib.Dec.{T, leb, leb→le}
+use lib.Dec.{T, leb, leb→le, lit≤}
 use lib.IntN.{pos}
 use lib.ListN.{length}
-use lib.Ieee.{Float, lt, le}
+use lib.Ieee.{Float, nan, lt, le}
 use lib.Ieee.Scale.{finite}
+use Rattle.std.proofs.lemmas.List.Folds.{list_all_at}
 use Rattle.floats.specs.Ops.{at}
 use Rattle.floats.proofs.Tests.{both}
 use Rattle.plate_row.specs.Row as row
@@ -20,7 +21,7 @@ use Rattle.hundredths.proofs.Nearest.{order}
 use Rattle.hundredths.specs.Hundredths.{in_span, hundredths_of}
 use Rattle.hundredths.specs.Raised.{raised_of, lowered}
 use Rattle.hundredths.proofs.Raised.{raised-le, lowered-raised, lowered_order, lowered-difference}
-use Rattle.planet_lines.specs.Losses.{span_to, all_in_span, larger, greatest_to, greatest, loss_at, top_to, top}
+use Rattle.planet_lines.specs.Losses.{all_in_span, larger, greatest_to, greatest, loss_at, top_to, top}
 
 -- what holds of v and of all below it
 each : (P : ℕ → Type 0) (n v : ℕ) → v ≤ n → P n → (v < n → P v) → P v
@@ -35,81 +36,76 @@ larger-lowered a b = rw (lowered_order a b) (go (leb a b) (leb-true a b) (leb-fa
     go false h k = ap lowered (omega (arith, k refl))
 
 module _ (numbers : List Float) where
-  span_to_lem : (n v : ℕ) → span_to numbers n ≡ true → v < n → in_span (at numbers v) ≡ true
-  unfolding span_to
-  span_to_lem zero v h i = absurd (omega arith)
-  span_to_lem (suc n) v h i =
-      let p = both (span_to numbers n) (in_span (at numbers n)) h in
-      each (λ (w : ℕ). in_span (at numbers w) ≡ true) n v (omega arith) p.1 (λ (lt : v < n). span_to_lem n v p.0 lt)
-
-  -- one number more
-  pub top-more : (i : ℕ) → 1 ≤ i → top_to numbers i ≡ max (top_to numbers (i - 1)) (raised_of (at numbers i))
+  none_above : (n v : ℕ) → v < n → raised_of (at numbers v) ≤ top_to numbers n
   unfolding top_to
-  top-more i h = go (i - 1) (omega arith)
-    where
-      go : (n : ℕ) → i ≡ suc n → top_to numbers i ≡ max (top_to numbers n) (raised_of (at numbers i))
-      go n e = rw e
-
-  none_above : (n v : ℕ) → v ≤ n → raised_of (at numbers v) ≤ top_to numbers n
-  unfolding top_to
-  none_above zero v h = let e : v ≡ 0 = omega arith in rw e (le_refl _)
+  none_above zero v h = absurd (omega arith)
   none_above (suc n) v h =
-      each (λ (w : ℕ). raised_of (at numbers w) ≤ top_to numbers (suc n)) (suc n) v h (omega arith) (λ (lt : v < suc n). omega (arith, none_above n v (omega arith)))
+      each (λ (w : ℕ). raised_of (at numbers w) ≤ top_to numbers (suc n)) n v (omega arith) (omega arith) (λ (lt : v < n). omega (arith, none_above n v lt))
 
   -- a number that has it
   record Attained (n : ℕ) : Type 0 where
     place : ℕ
     within : place ≤ n
-    there : raised_of (at numbers place) ≡ top_to numbers n
+    there : raised_of (at numbers place) ≡ top_to numbers (suc n)
 
   attained_more : (n : ℕ) → Attained n
       → let next = raised_of (at numbers (suc n)) in
-      (t : Bool) → (t ≡ true → top_to numbers n ≤ next) → (t ≡ false → next < top_to numbers n) → Attained (suc n)
+      (t : Bool) → (t ≡ true → top_to numbers (suc n) ≤ next) → (t ≡ false → next < top_to numbers (suc n)) → Attained (suc n)
   unfolding top_to
   attained_more n before true h k = record { place = suc n; within = le_refl (suc n); there = omega (arith, h refl) }
   attained_more n before false h k = record { place = before.place; within = omega (arith, before.within); there = omega (arith, before.there, k refl) }
 
   attained : (n : ℕ) → Attained n
   unfolding top_to
-  attained zero = record { place = 0; within = le_refl 0; there = refl }
-  attained (suc n) = let next = raised_of (at numbers (suc n)) in attained_more n (attained n) (leb (top_to numbers n) next) (leb-true (top_to numbers n) next) (leb-false (top_to numbers n) next)
+  attained zero = record { place = 0; within = le_refl 0; there = omega arith }
+  attained (suc n) =
+      let next = raised_of (at numbers (suc n)) in
+      let so_far = top_to numbers (suc n) in
+      attained_more n (attained n) (leb so_far next) (leb-true so_far next) (leb-false so_far next)
 
   module _ (span : all_in_span numbers ≡ true) where
     pub span_at : (v : ℕ) → v < length numbers → in_span (at numbers v) ≡ true
     unfolding all_in_span
-    span_at v i = span_to_lem (length numbers) v span i
+    span_at v i = go (in_span (at numbers v)) refl
+      where
+        go : (b : Bool) → in_span (at numbers v) ≡ b → b ≡ true
+        go true e = refl
+        go false e = absurd (true≢false (sym span ∙ list_all_at in_span numbers v nan i e))
 
-    lowered_to : (n : ℕ) → n < length numbers → lowered (top_to numbers n) ≡ greatest_to numbers n
+    lowered_to : (n : ℕ) → n < length numbers → lowered (top_to numbers (suc n)) ≡ greatest_to numbers n
     unfolding top_to greatest_to
-    lowered_to zero i = lowered-raised (at numbers 0) (span_at 0 i)
+    lowered_to zero i = ap lowered (omega arith) ∙ lowered-raised (at numbers 0) (span_at 0 i)
     lowered_to (suc n) i =
         rw (← lowered_to n (omega arith), ← lowered-raised (at numbers (suc n)) (span_at (suc n) i))
-        (sym (larger-lowered (top_to numbers n) (raised_of (at numbers (suc n)))))
+        (sym (larger-lowered (top_to numbers (suc n)) (raised_of (at numbers (suc n)))))
 
     pub lowered-top : 0 < length numbers → lowered (top numbers) ≡ greatest numbers
     unfolding top greatest
-    lowered-top some = lowered_to (length numbers - 1) (omega arith)
+    lowered-top some =
+        let last = lowered_to (length numbers - 1) (omega arith) in
+        let all : suc (length numbers - 1) ≡ length numbers = omega arith in
+        rw all at last
 
-    top_to_le : (n : ℕ) → n < length numbers → top_to numbers n ≤ 200000
+    top_to_le : (n : ℕ) → n ≤ length numbers → top_to numbers n ≤ 200000
     unfolding top_to
-    top_to_le zero i = raised-le (at numbers 0) (span_at 0 i)
-    top_to_le (suc n) i = omega (arith, top_to_le n (omega arith), raised-le (at numbers (suc n)) (span_at (suc n) i))
+    top_to_le zero i = lit≤ tt
+    top_to_le (suc n) i = omega (arith, top_to_le n (omega arith), raised-le (at numbers n) (span_at n i))
 
-    pub top-le : 0 < length numbers → top numbers ≤ 200000
+    pub top_le : top numbers ≤ 200000
     unfolding top
-    top-le some = top_to_le (length numbers - 1) (omega arith)
+    top_le = top_to_le (length numbers) (le_refl _)
 
     module _ (v : ℕ) (i : v < length numbers) where
-      pub entry-le : raised_of (at numbers v) ≤ top numbers
+      pub entry_le : raised_of (at numbers v) ≤ top numbers
       unfolding top
-      entry-le = none_above (length numbers - 1) v (omega arith)
+      entry_le = none_above (length numbers) v i
 
       -- in whole numbers above 0
       pub loss_is : loss_at numbers v ≡ pos (top numbers - raised_of (at numbers v))
       unfolding loss_at
       loss_is =
           rw (lt-ltb v (length numbers) i, ← lowered-top (omega arith), ← lowered-raised (at numbers v) (span_at v i))
-          (lowered-difference (top numbers) (raised_of (at numbers v)) entry-le)
+          (lowered-difference (top numbers) (raised_of (at numbers v)) entry_le)
 
     -- the number that has it loses nothing
     pub lossless-at : 0 < length numbers → (v : ℕ) × (v < length numbers) × (loss_at numbers v ≡ pos 0)
@@ -117,7 +113,9 @@ module _ (numbers : List Float) where
     lossless-at some =
         let a = attained (length numbers - 1) in
         let inside : a.place < length numbers = omega (arith, a.within) in
-        (a.place, inside, loss_is a.place inside ∙ ap pos (omega (arith, a.there)))
+        let all : suc (length numbers - 1) ≡ length numbers = omega arith in
+        let there = rw all at a.there in
+        (a.place, inside, loss_is a.place inside ∙ ap pos (omega (arith, there)))
 
 -- ---- the greatest number of a row has the greatest hundredths
 

@@ -21,7 +21,7 @@ use Rattle.hundredths.proofs.Raised.{lowered-below, lowered-from}
 use Rattle.hundredths.proofs.Text.{numeral-short, loss_length, two-decimals-length}
 use Rattle.planet_lines.specs.Losses.{all_in_span, loss_at, top}
 use Rattle.planet_lines.specs.Text.{whole_line, gain_line, loss_line, lines_to, part_text, mhz_of, header_text, text_of}
-use Rattle.planet_lines.proofs.Greatest.{lowered-top, top-le, loss_is}
+use Rattle.planet_lines.proofs.Greatest.{lowered-top, top_le, loss_is}
 
 pub whole_length : (word : List ℕ) (n : ℕ) → length (whole_line word n) ≤ length word + 11
 unfolding whole_line
@@ -70,7 +70,7 @@ module _ (numbers : List Float) (span : all_in_span numbers ≡ true) where
       go : (b : Bool) → ltb angle (length numbers) ≡ b → (n : ℕ) × (n ≤ 200000) × (loss_at numbers angle ≡ pos n)
       go true e =
           let i = ltb-true angle (length numbers) e in
-          (top numbers - raised_of (at numbers angle), omega (arith, top-le numbers span (omega arith)), loss_is numbers span angle i)
+          (top numbers - raised_of (at numbers angle), omega (arith, top_le numbers span), loss_is numbers span angle i)
       go false e = (9999, lit≤ tt, rw e)
 
   lines-length : (n : ℕ) → n ≤ 1000 → length (lines_to (loss_at numbers) n) ≤ 12 * n
@@ -90,5 +90,5 @@ module _ (parm horizontal vertical : List Float) (span-h : all_in_span horizonta
   pub text_length : length (text_of parm horizontal vertical) ≤ 8738
   unfolding text_of quoted
   text_length =
-      let header = rw (lowered-top horizontal span-h some) at (header-length parm (top horizontal) (top-le horizontal span-h some)) in
+      let header = rw (lowered-top horizontal span-h some) at (header-length parm (top horizontal) (top_le horizontal span-h)) in
       simp length-append (omega (arith, header, part_length horizontal span-h (quoted "HORIZONTAL "), part_length vertical span-v (quoted "VERTICAL ")))

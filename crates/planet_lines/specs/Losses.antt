@@ -1,17 +1,14 @@
 -- Document 02, card 14: "loss is the greatest hundredths of that part less the entry's", and what a span is. Definitions only.
-use Rattle.std.specs.Prelude.{ℕ, zero, suc, ◌-◌, max, Bool, true, cond, ◌&&◌, List, ℤ, pos, ◌-ℤ◌, ltb, length, Float}
+use Rattle.std.specs.Prelude.{ℕ, zero, suc, ◌-◌, max, Bool, cond, List, ℤ, pos, ◌-ℤ◌, ltb, length, Float}
+use Rattle.std.specs.List.{list_all}
 use Rattle.std.specs.Int.Signed.{le_z}
 use Rattle.floats.specs.Ops.{at}
 use Rattle.hundredths.specs.Hundredths.{in_span, hundredths_of}
 use Rattle.hundredths.specs.Raised.{raised_of}
 
--- 18: the first n numbers are at most 1,000 in size
-unfoldable pub span_to : List Float → ℕ → Bool
-span_to numbers zero = true
-span_to numbers (suc n) = span_to numbers n && in_span (at numbers n)
-
+-- 18: every number is at most 1,000 in size
 unfoldable pub all_in_span : List Float → Bool
-all_in_span numbers = span_to numbers (length numbers)
+all_in_span numbers = list_all in_span numbers
 
 -- of two whole numbers the larger
 unfoldable pub larger : ℤ → ℤ → ℤ
@@ -36,9 +33,10 @@ loss_at numbers angle = cond (ltb angle (length numbers)) (greatest numbers -ℤ
 
 -- ---- the code's step, proved equal: the greatest of the raised hundredths
 
+-- of the first n numbers
 unfoldable pub top_to : List Float → ℕ → ℕ
-top_to numbers zero = raised_of (at numbers 0)
-top_to numbers (suc n) = max (top_to numbers n) (raised_of (at numbers (suc n)))
+top_to numbers zero = 0
+top_to numbers (suc n) = max (top_to numbers n) (raised_of (at numbers n))
 
 unfoldable pub top : List Float → ℕ
-top numbers = top_to numbers (length numbers - 1)
+top numbers = top_to numbers (length numbers)

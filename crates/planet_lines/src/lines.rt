@@ -2,22 +2,15 @@
 ghost use Rattle.std.specs.Prelude.{◌≡◌, true, ◌+◌, ◌≤◌, ◌<◌, pos, length, take};
 ghost use Rattle.words.specs.Writing.{Wrote};
 ghost use Rattle.hundredths.specs.Raised.{lowered};
-ghost use Rattle.planet_lines.specs.Losses.{all_in_span, loss_at, top};
-ghost use Rattle.planet_lines.specs.Text.{whole_line, gain_line, loss_line, lines_to, part_text, mhz_of, header_text, text_of};
+ghost use Rattle.planet_lines.specs.Losses.{all_in_span, loss_at};
+ghost use Rattle.planet_lines.specs.Text.{whole_line, gain_line, loss_line, lines_to, part_text, header_text, text_of};
 
-use crate::losses::{greatest_raised, loss_at};
+use crate::losses::Part;
+use floats::rounding::natural;
 use hundredths::decimals::{push_hundredths, push_raised};
 use model::types::jant;
 use numerals::push_numeral;
 use words::bytes::{push, push_bytes};
-
-// MHz without decimals.
-fn whole_mhz(x: f32) -> u32
-    ensures { result ≡ mhz_of x }
-{
-    let n = numeric::float::to_i32(x);
-    if n < 0 { 0 } else { n as u32 }
-}
 
 // A line of a word and a whole number.
 fn push_whole(out: &mut [u8], at: usize, word: &[u8], n: u32) -> usize
@@ -51,28 +44,28 @@ fn push_loss(out: &mut [u8], at: usize, angle: u32, loss: u32) -> usize
     push(out, end, b'\n')
 }
 
-// A part's 360 lines.
-fn push_losses(out: &mut [u8], at: usize, numbers: &[f32], greatest: u32) -> usize
-    requires { (at + 4335 ≤ length out.old) × (all_in_span numbers.now ≡ true) × (greatest ≡ top numbers.now) }
-    ensures { Wrote out.old at (lines_to (loss_at numbers.now) 360) out.new result }
-{
-    let mut end = at;
-    let mut angle: usize = 0;
-    while angle < 360 {
-        let loss = loss_at(numbers, greatest, angle);
-        end = push_loss(out, end, angle as u32, loss);
-        angle += 1;
+impl Part<'_> {
+    // Its 360 lines.
+    fn push_losses(self, out: &mut [u8], at: usize) -> usize
+        requires { at + 4335 ≤ length out.old }
+        ensures { Wrote out.old at (lines_to (loss_at self.entry.numbers.now) 360) out.new result }
+    {
+        let mut end = at;
+        for angle in 0..360 {
+            let loss = self.loss_at(angle as usize);
+            end = push_loss(out, end, angle, loss);
+        }
+        end
     }
-    end
-}
 
-// A part, by its word and its numbers.
-fn push_part(out: &mut [u8], at: usize, word: &[u8], numbers: &[f32], greatest: u32) -> usize
-    requires { (at + length word.now + 4346 ≤ length out.old) × (all_in_span numbers.now ≡ true) × (greatest ≡ top numbers.now) }
-    ensures { Wrote out.old at (part_text word.now numbers.now) out.new result }
-{
-    let lines_at = push_whole(out, at, word, 360);
-    push_losses(out, lines_at, numbers, greatest)
+    // The part, by its word.
+    fn push(self, out: &mut [u8], at: usize, word: &[u8]) -> usize
+        requires { at + length word.now + 4346 ≤ length out.old }
+        ensures { Wrote out.old at (part_text word.now self.entry.numbers.now) out.new result }
+    {
+        let lines_at = push_whole(out, at, word, 360);
+        self.push_losses(out, lines_at)
+    }
 }
 
 // The lines before the parts, with the greatest raised hundredths of the horizontal part.
@@ -81,7 +74,7 @@ fn push_header(out: &mut [u8], parm: [f32; 20], greatest: u32) -> usize
     ensures { Wrote out.old 0 (header_text parm (lowered greatest)) out.new result }
 {
     let mhz_at = push_whole(out, 0, b"NAME T", jant(parm[1]));
-    let gain_at = push_whole(out, mhz_at, b"FREQUENCY ", whole_mhz(parm[4]));
+    let gain_at = push_whole(out, mhz_at, b"FREQUENCY ", natural(parm[4]));
     push_gain_line(out, gain_at, greatest)
 }
 
@@ -95,14 +88,8 @@ pub fn push_text(out: &mut [u8], parm: [f32; 20], horizontal: &[f32], vertical: 
     // what a caller needs to lend the text on, as `&out[..r]`
     ensures within { (result ≤ length out.new) × (result ≡ length (take result out.new)) }
 {
-    let greatest = greatest_raised(horizontal);
-    let horizontal_at = push_header(out, parm, greatest);
-    let vertical_at = push_part(out, horizontal_at, b"HORIZONTAL ", horizontal, greatest);
-    push_part(
-        out,
-        vertical_at,
-        b"VERTICAL ",
-        vertical,
-        greatest_raised(vertical),
-    )
+    let around = Part::new(horizontal);
+    let horizontal_at = push_header(out, parm, around.greatest);
+    let vertical_at = around.push(out, horizontal_at, b"HORIZONTAL ");
+    Part::new(vertical).push(out, vertical_at, b"VERTICAL ")
 }

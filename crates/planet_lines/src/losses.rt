@@ -1,47 +1,60 @@
-// Losses of a part: its greatest hundredths less each entry's.
-ghost use Rattle.std.specs.Prelude.{◌≡◌, true, ◌≤◌, ◌<◌, pos, length};
+// A part of the pattern, and its losses: its greatest hundredths less each entry's.
+ghost use Rattle.std.specs.Prelude.{◌≡◌, true, ◌≤◌, pos};
 ghost use Rattle.planet_lines.specs.Losses.{all_in_span, loss_at, top};
 
 use hundredths::rounding::{in_span, raised};
 
 // Whether every number is at most 1,000 in size.
+#[tactic(auto, unfolding(crate::specs::Losses::all_in_span))]
 pub fn all_in_span(numbers: &[f32]) -> bool
     ensures { result ≡ all_in_span numbers.now }
 {
-    let mut ok = true;
-    let mut i: usize = 0;
-    while i < numbers.len() {
-        ok = ok & in_span(numbers[i]);
-        i += 1;
-    }
-    ok
+    numbers.iter().all(|x| in_span(*x))
 }
 
 // The greatest hundredths, raised.
-pub(crate) fn greatest_raised(numbers: &[f32]) -> u32
-    requires { (all_in_span numbers.now ≡ true) × (0 < length numbers.now) }
+#[tactic(auto, using(crate::proofs::Greatest::span_at), unfolding(crate::specs::Losses::top, crate::specs::Losses::top_to))]
+fn greatest_raised(numbers: &[f32]) -> u32
+    requires { all_in_span numbers.now ≡ true }
     ensures { result ≡ top numbers.now }
 {
-    let mut greatest = raised(numbers[0]);
-    let mut i: usize = 1;
-    while i < numbers.len() {
-        let next = raised(numbers[i]);
-        if greatest < next {
-            greatest = next;
-        }
-        i += 1;
+    let mut greatest = 0;
+    for x in numbers {
+        greatest = u32::max(greatest, raised(*x));
     }
     greatest
 }
 
-// The loss at an angle, in hundredths; 99.99 below ground.
-pub(crate) fn loss_at(numbers: &[f32], greatest: u32, angle: usize) -> u32
-    requires { (all_in_span numbers.now ≡ true) × (greatest ≡ top numbers.now) }
-    ensures { (pos result ≡ loss_at numbers.now angle) × (result ≤ 200000) }
-{
-    if angle < numbers.len() {
-        greatest - raised(numbers[angle])
-    } else {
-        9999
+// A part's numbers, all in span, with the greatest of their raised hundredths.
+#[derive(Clone, Copy)]
+pub(crate) struct Part<'a> {
+    pub(crate) numbers: &'a [f32],
+    pub(crate) greatest: u32,
+    ghost spanned: { all_in_span numbers.now ≡ true },
+    ghost highest: { greatest ≡ top numbers.now },
+}
+
+impl Part<'_> {
+    pub(crate) fn new(numbers: &[f32]) -> Part
+        requires { all_in_span numbers.now ≡ true }
+        ensures { result.numbers.now ≡ numbers.now }
+    {
+        Part {
+            numbers,
+            greatest: greatest_raised(numbers),
+        }
+    }
+
+    // The loss at an angle, in hundredths; 99.99 below ground.
+    #[tactic(auto, using(crate::proofs::Greatest::span_at, crate::proofs::Greatest::entry_le, crate::proofs::Greatest::top_le, crate::proofs::Greatest::loss_is), unfolding(crate::specs::Losses::loss_at))]
+    pub(crate) fn loss_at(self, angle: usize) -> u32
+        ensures loss { pos result ≡ loss_at self.entry.numbers.now angle }
+        ensures upper_bound { result ≤ 200000 }
+    {
+        if angle < self.numbers.len() {
+            self.greatest - raised(self.numbers[angle])
+        } else {
+            9999
+        }
     }
 }

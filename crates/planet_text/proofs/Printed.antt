@@ -6,7 +6,9 @@ use native.Mathlib.Omega.{arith}
 use borrow.Author.Tests.{le-ltb}
 use lib.Dec.{lit≤}
 use lib.ListN.{length}
-use Rattle.answers.specs.Outcome.{Outcome, refused, accepted}
+use Rattle.std.specs.Prelude.{Result, Ok, Err}
+use Rattle.answers.specs.declared.Refusal.{Refusal}
+use Rattle.answers.specs.Outcome.{Outcome, refused, accepted, number, outcome}
 use Rattle.answers.proofs.Outcome.{same}
 use Rattle.words.specs.Laid.{laid}
 use Rattle.words.specs.Writing.{Wrote}
@@ -14,9 +16,7 @@ use Rattle.words.proofs.Laid.{laid-length}
 use Rattle.request.specs.Request.{and_then}
 use Rattle.text.specs.Lines.{refusal_line}
 use Rattle.text.proofs.Laws.{printed-length, printed-refused, printed-accepted}
-use Rattle.planet_text.specs.Planet.{planet_text, in_room, length_of, lent_after, planet_answer, planet_of, text_after, output_in}
-use Rattle.planet_text.specs.declared.Answer.{Answer}
-use Rattle.planet_text.specs.declared.Answer.TheVariants.{Written, Refused}
+use Rattle.planet_text.specs.Planet.{planet_text, in_room, length_of, lent_after, planet_of, text_after, output_in}
 use Rattle.planet_text.proofs.Accepted.{text_short, enough-room}
 use Rattle.request.proofs.Then.{then_only}
 
@@ -34,17 +34,17 @@ module _ (input before : List ℕ) (room : 8960 ≤ length before) where
   roomy : in_room (length before) (planet_text input) ≡ planet_text input
   roomy = enough-room input (length before) room
 
-  module _ (r : Answer) (after : List ℕ) (answered : planet_answer r ≡ planet_of input (length before)) (lent : after ≡ text_after input before) where
-    pub output_refused : (n : ℕ) → r ≡ Refused n → (refusal_line n ≡ output_in (length before) input) × (after ≡ before)
-    unfolding planet_answer output_in lent_after
-    output_refused n told =
-        let e : planet_text input ≡ refused n = refused-only (planet_text input) n (sym (ap planet_answer told) ∙ answered ∙ ap length_of roomy) in
-        (sym (rw (le-ltb (length before) 8960 room) (printed-refused _ _ n e)), lent ∙ ap (λ (o : Outcome (List ℕ)). lent_after o before) (roomy ∙ e))
+  module _ (r : Result ℕ Refusal) (after : List ℕ) (answered : outcome r ≡ planet_of input (length before)) (lent : after ≡ text_after input before) where
+    pub output_refused : (e : Refusal) → r ≡ Err e → (refusal_line (number e) ≡ output_in (length before) input) × (after ≡ before)
+    unfolding output_in lent_after
+    output_refused r told =
+        let e : planet_text input ≡ refused (number r) = refused-only (planet_text input) (number r) (sym (ap outcome told) ∙ answered ∙ ap length_of roomy) in
+        (sym (rw (le-ltb (length before) 8960 room) (printed-refused _ _ (number r) e)), lent ∙ ap (λ (o : Outcome (List ℕ)). lent_after o before) (roomy ∙ e))
 
-    pub output_written : (n : ℕ) → r ≡ Written n → Wrote before 0 (output_in (length before) input) after n × (length (output_in (length before) input) ≤ length after)
-    unfolding planet_answer output_in lent_after length_of
+    pub output_written : (n : ℕ) → r ≡ Ok n → Wrote before 0 (output_in (length before) input) after n × (length (output_in (length before) input) ≤ length after)
+    unfolding output_in lent_after length_of
     output_written n told =
-        let long = then_only _ _ (sym (sym (ap planet_answer told) ∙ answered ∙ ap length_of roomy)) in
+        let long = then_only _ _ (sym (sym (ap outcome told) ∙ answered ∙ ap length_of roomy)) in
         let s = long.first in
         let e = long.accepts in
         let short : length s ≤ 8738 = text_short input e in

@@ -1,6 +1,7 @@
 -- Document 02, card 14: from the 237 bytes that `plate` reads, "by its steps", to the text or the first refusal. Definitions only.
-use Rattle.std.specs.Prelude.{ℕ, ◌≡◌, cond, not, ◌&&◌, List, [], length, ltb, Float}
-use Rattle.answers.specs.Outcome.{Outcome, refused, accepted}
+use Rattle.std.specs.Prelude.{ℕ, ◌≡◌, Result, cond, not, ◌&&◌, List, [], length, ltb, Float}
+use Rattle.answers.specs.declared.Refusal.{Refusal}
+use Rattle.answers.specs.Outcome.{Outcome, refused, accepted, outcome}
 use Rattle.answers.specs.Refusals.{SPACE, SPAN}
 use Rattle.words.specs.Laid.{laid}
 use Rattle.model.specs.Table.{table_size, blank_table}
@@ -11,8 +12,6 @@ use Rattle.text.specs.Lines.{printed}
 use Rattle.planet_vertical.specs.Directions.{horizontal_gain, vertical_gain, numbers_to}
 use Rattle.planet_lines.specs.Losses.{all_in_span}
 use Rattle.planet_lines.specs.Text.{text_of}
-use Rattle.planet_text.specs.declared.Answer.{Answer}
-use Rattle.planet_text.specs.declared.Answer.TheVariants.{Written, Refused}
 
 -- "18 span, for a number over 1,000 in size; tested after 10"
 unfoldable pub spanned : List Float → List Float → List Float → Outcome (List ℕ)
@@ -52,14 +51,9 @@ planet_of input room = length_of (in_room room (planet_text input))
 abbrev pub text_after : List ℕ → List ℕ → List ℕ
 text_after input lent = lent_after (in_room (length lent) (planet_text input)) lent
 
--- what each case of the answer says
-unfoldable pub planet_answer : Answer → Outcome ℕ
-planet_answer (Written n) = accepted n
-planet_answer (Refused n) = refused n
-
 -- the answer and the lent bytes afterwards, of a text: what the code's steps promise
-pub record Delivered (text : Outcome (List ℕ)) (before : List ℕ) (answer : Answer) (after : List ℕ) : Type 0 where
-  pub answered : planet_answer answer ≡ length_of (in_room (length before) text)
+pub record Delivered (text : Outcome (List ℕ)) (before : List ℕ) (answer : Result ℕ Refusal) (after : List ℕ) : Type 0 where
+  pub answered : outcome answer ≡ length_of (in_room (length before) text)
   pub lent : after ≡ lent_after (in_room (length before) text) before
 
 -- the program's output into a buffer of room bytes: the text or the refusal's line, or nothing where there are under 8,960

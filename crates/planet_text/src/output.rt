@@ -3,7 +3,7 @@ ghost use Rattle.std.specs.Prelude.{◌≡◌, ◌≤◌, length, take};
 ghost use Rattle.words.specs.Writing.{Wrote};
 ghost use Rattle.planet_text.specs.Planet.{output_in};
 
-use crate::{Answer, planet};
+use crate::planet;
 use text::lines::push_refusal;
 
 // Writes the program's output for this input from the buffer's start on, and returns its length; a
@@ -16,9 +16,8 @@ pub fn planet_output(input: &[u8], text: &mut [u8]) -> usize
     if text.len() < 8960 {
         return 0;
     }
-    let answer = planet(input, text);
-    match answer {
-        Answer::Refused(n) => push_refusal(text, 0, n),
-        Answer::Written(n) => n,
+    match planet(input, text) {
+        Err(r) => push_refusal(text, 0, r),
+        Ok(n) => n,
     }
 }

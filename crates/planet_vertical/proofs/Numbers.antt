@@ -12,14 +12,12 @@ use Rattle.floats.specs.Ops.{at}
 use Rattle.floats.proofs.Filled.{filled-length}
 use Rattle.answers.specs.Outcome.{Outcome, refused, accepted}
 use Rattle.answers.proofs.Outcome.{same}
-use Rattle.antenna.specs.Gain.{Kind}
+use Rattle.answers.specs.declared.Kind.{Kind}
 use Rattle.plate_row.specs.Row.{row_of, numbers_of}
 use Rattle.antenna_laws.proofs.RowGains.{accepted_row_gains}
 use Rattle.request.specs.declared.Request.{Request}
 use Rattle.request.specs.Request.{and_then}
-use Rattle.planet_vertical.specs.Directions.{horizontal_gain, number_of, numbers_to, number_answer}
-use Rattle.planet_vertical.specs.declared.vertical.Number.{Number}
-use Rattle.planet_vertical.specs.declared.vertical.Number.TheVariants.{Level, NoLevel}
+use Rattle.planet_vertical.specs.Directions.{horizontal_gain, number_of, numbers_to}
 use Rattle.request.proofs.Then.{then_only}
 
 module _ (gain : ℕ → Outcome (Kind × Float)) (n : ℕ) {xs : List Float} (before : numbers_to gain n ≡ accepted xs) where
@@ -31,16 +29,6 @@ module _ (gain : ℕ → Outcome (Kind × Float)) (n : ℕ) {xs : List Float} (b
   unfolding numbers_to and_then
   numbers_stop e zero h = absurd (omega arith)
   numbers_stop e (suc m) h = ⊎_elim (λ (f : n ≡ m). rw (← f, before, e)) (λ (l : n < m). rw (numbers_stop e m l)) (eq-or-lt_of_le (omega arith))
-
--- what `number_of` told of a gain
-module _ (r : Number) (gain : Outcome (Kind × Float)) (told : number_answer r ≡ number_of gain) where
-  pub told-level : (x : Float) → r ≡ Level x → number_of gain ≡ accepted x
-  unfolding number_answer
-  told-level x e = sym told ∙ ap number_answer e
-
-  pub told-refused : (n : ℕ) → r ≡ NoLevel n → number_of gain ≡ refused n
-  unfolding number_answer
-  told-refused n e = sym told ∙ ap number_answer e
 
 -- ---- all of them
 

@@ -1,14 +1,11 @@
 -- Document 02, card 14: the two parts' directions, and `ccirgain`'s answers there. Definitions only.
 use Rattle.std.specs.Prelude.{ℕ, zero, suc, ◌-◌, cond, List, [], ◌∷◌, ◌++◌, ltb, Float}
 use Rattle.floats.specs.Ops.{count}
-use Rattle.answers.specs.Outcome.{Outcome, refused, accepted}
-use Rattle.antenna.specs.Gain.{Kind, gain_of}
+use Rattle.answers.specs.Outcome.{Outcome, accepted}
+use Rattle.answers.specs.declared.Kind.{Kind}
+use Rattle.antenna.specs.Gain.{gain_of}
 use Rattle.request.specs.declared.Request.{Request}
 use Rattle.request.specs.Request.{and_then}
-use Rattle.planet_vertical.specs.declared.vertical.Number.{Number}
-use Rattle.planet_vertical.specs.declared.vertical.Number.TheVariants.{Level, NoLevel}
-use Rattle.planet_vertical.specs.declared.vertical.Vertical.{Vertical}
-use Rattle.planet_vertical.specs.declared.vertical.Vertical.TheVariants.{Filled, Refused}
 
 -- horizontal: the plate row's, an azimuth at the elevation given
 abbrev pub horizontal_gain : Request → List Float → ℕ → Outcome (Kind × Float)
@@ -32,14 +29,3 @@ number_of gain = and_then gain λ (g : Kind × Float). accepted g.1
 unfoldable pub numbers_to : (ℕ → Outcome (Kind × Float)) → ℕ → Outcome (List Float)
 numbers_to gain zero = accepted []
 numbers_to gain (suc n) = and_then (numbers_to gain n) λ (xs : List Float). and_then (number_of (gain n)) λ (x : Float). accepted (xs ++ (x ∷ []))
-
--- ---- what each case of the code's answers says
-
-unfoldable pub number_answer : Number → Outcome Float
-number_answer (Level x) = accepted x
-number_answer (NoLevel n) = refused n
-
--- with the lent numbers afterwards
-unfoldable pub vertical_answer : Vertical → List Float → Outcome (List Float)
-vertical_answer Filled numbers = accepted numbers
-vertical_answer (Refused n) numbers = refused n

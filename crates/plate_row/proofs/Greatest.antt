@@ -4,11 +4,16 @@ use Prim.Native.Nat.{ℕ, zero, suc, ◌+◌, ◌-◌, ◌≤◌, ◌<◌}
 use mathlib.Core.Path.{◌≡◌, refl, sym, ap, subst, ◌∙◌}
 use mathlib.Core.Bool.{Bool, true, false, cond}
 use mathlib.Core.List.{List}
+use lib.ListN.{length, get_or, take, drop, length-drop}
+use lib.Seq.{get_or-drop}
+use native.Mathlib.Numerals.{add-one}
+use Rattle.std.specs.List.{fold}
+use Rattle.std.proofs.lemmas.List.Sums.{fold_more}
 use mathlib.Core.Logic.{⊎_elim}
 use native.Mathlib.Nat.{eq-or-lt_of_le, le_refl}
 use native.Mathlib.Omega.{arith}
 use lib.Dec.{T}
-use lib.Ieee.{Float, lt, le}
+use lib.Ieee.{Float, nan, lt, le}
 use lib.Ieee.Scale.{finite}
 use Rattle.floats.specs.Ops.{at}
 use Rattle.floats.proofs.Order.{le_trans_finite}
@@ -42,6 +47,19 @@ module _ (row : List Float) where
     where
       go : (n : ℕ) → v ≡ first + suc n → greatest_of row first (v - first) ≡ larger (greatest_of row first n) (at row v)
       go n e = let f : v - first ≡ suc n = omega arith in rw (f, e)
+
+  -- folded over the entries after `first`
+  greatest_fold : (first n : ℕ) → first + n < length row → greatest_of row first n ≡ fold larger (at row first) (take n (drop (suc first) row))
+  unfolding greatest_of
+  greatest_fold first zero h = refl
+  greatest_fold first (suc n) h =
+      let rest = drop (suc first) row in
+      let there : get_or rest n nan ≡ at row (first + suc n) = get_or-drop (suc first) row n nan ∙ ap (λ (v : ℕ). get_or row v nan) (omega arith) in
+      let step = fold_more larger (at row first) rest n nan (omega (arith, length-drop (suc first) row)) in
+      rw (greatest_fold first n (omega arith), ← there) (sym (rw add-one at step))
+
+  pub by_fold : length row ≡ 360 → fold larger (at row 90) (take 180 (drop 91 row)) ≡ greatest row 90 270
+  by_fold h = sym (greatest_fold 90 180 (omega arith))
 
   -- the entries at `first` and the n azimuths after it are finite
   abbrev FiniteFrom : ℕ → ℕ → Type 0

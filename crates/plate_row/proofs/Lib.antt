@@ -1,2 +1,2 @@
--- The laws of a row's greatest entry, which the loop behind goes by and crates above cite.
+-- The laws of a row's greatest entry, which the fold behind goes by and crates above cite.
 pub mod Greatest

@@ -1,2 +1,2 @@
--- What the row's proof says of its outcome.
-mod Steps
+-- What is true of a row's outcome.
+pub mod Steps

@@ -15,8 +15,6 @@ use Rattle.antenna.specs.Asked.{asked_refusal}
 use Rattle.antenna.specs.Gain.{number_at}
 use Rattle.antenna.specs.declared.record.Antenna.{Antenna}
 use Rattle.antenna.specs.declared.asked.Asked.{Asked}
-use Rattle.plate_row.specs.declared.row.PlateRow.{PlateRow}
-use Rattle.plate_row.specs.declared.row.PlateRow.TheVariants.{FrontToBack, Refused}
 
 -- a whole elevation 0..90, -0 too
 unfoldable pub elevation_ok : Float → Bool
@@ -59,11 +57,6 @@ unfoldable pub row_of : Antenna → List Float → Float → Float → ℕ → O
 row_of a t u giso n =
     let number = asked_refusal a.model (length t) (row_asked (own_table a t) u giso n) in
     cond (ltb 0 number) (refused number) (measured (numbers_of a t u giso))
-
--- what each case of the answer says
-unfoldable pub row_answer : PlateRow → Outcome Float
-row_answer (FrontToBack x) = accepted x
-row_answer (Refused n) = refused n
 
 -- the lent floats afterwards: the numbers, or after a refusal what they were
 unfoldable pub written_after : Outcome Float → List Float → List Float → List Float

@@ -1,15 +1,16 @@
 // The plate row: the numbers of `ccirgain` around one elevation, with front-to-back.
 ghost use Rattle.std.specs.Prelude.{◌≡◌, ℕ, ◌≤◌, true, length, Float};
+ghost use Rattle.answers.specs.Outcome.{outcome};
 ghost use Rattle.floats.specs.Ops.{+0};
 ghost use Rattle.floats.specs.Filled.{filled_to};
 ghost use Rattle.model.specs.Counts.{counts_ok};
 ghost use Rattle.model.specs.Table.{table_size};
 ghost use Rattle.plate_row.specs.Folded.{Mirrored};
-ghost use Rattle.plate_row.specs.Row.{elevation_ok, row_to, row_asked, row_of, row_answer, row_after};
+ghost use Rattle.plate_row.specs.Row.{elevation_ok, row_to, row_asked, row_of, row_after};
 
 use crate::behind::front_to_back;
-use antenna::asked::{Asked, refusal};
-use antenna::copy::lay_over;
+use answers::Refusal;
+use antenna::asked::{Asked, check};
 use antenna::gain::decibels;
 use antenna::record::Antenna;
 use antenna::sum::has_sum;
@@ -21,14 +22,8 @@ use parameters::whole::truncated;
 use pattern::gainrel::gainrel;
 use pattern::passes::around;
 
-// The entry at azimuth 0 less the greatest of those at 90 to 270, or the number of a refusal.
-#[derive(Clone, Copy)]
-pub enum PlateRow {
-    FrontToBack(f32),
-    Refused(u8),
-}
-
 // A whole elevation from 0 to 90.
+#[tactic(auto, unfolding(crate::specs::Row::elevation_ok))]
 fn elevation_ok(u: f32) -> bool
     ensures { result ≡ elevation_ok u }
 {
@@ -37,6 +32,7 @@ fn elevation_ok(u: f32) -> bool
 }
 
 // What a row asks, with n floats lent for it.
+#[tactic(auto, unfolding(crate::specs::Row::row_asked))]
 fn row_asked(own: bool, u: f32, giso: f32, n: usize) -> Asked
     ensures { result ≡ row_asked own u giso n }
 {
@@ -61,17 +57,15 @@ fn folds(iant: u32, sl: f32) -> bool
 }
 
 // The numbers at the first n azimuths, worked out one by one.
+#[tactic(auto, using(pattern::proofs::passes::Entries::around_at), unfolding(floats::specs::Filled::filled_to, antenna::specs::Gain::number_at))]
 fn filled(m: Model, z6: f32, table: &[f32], u: f32, giso: f32, n: u16) -> [f32; 360]
     requires { (counts_ok m ≡ true) × (table_size ≤ length table.now) × (n ≤ 360) }
     ensures { result ≡ row_to m z6 table.now u giso n }
 {
-    let gains = around(m, table, u, n);
+    let gains = around(&m, table, u, n);
     let mut out = [0.0f32; 360];
-    let mut v: u16 = 0;
-    while v < n {
-        let z9 = gains[v as usize];
-        out[v as usize] = decibels(z9, z6, giso);
-        v += 1;
+    for v in 0..n as usize {
+        out[v] = decibels(gains[v], z6, giso);
     }
     out
 }
@@ -82,10 +76,8 @@ fn folded(half: [f32; 360], west: f32) -> [f32; 360]
     ensures { (f : ℕ → Float) → Mirrored f → half ≡ filled_to f 360 181 → west ≡ f 270 → result ≡ filled_to f 360 360 }
 {
     let mut out = half;
-    let mut v: usize = 181;
-    while v < 360 {
+    for v in 181..360 {
         out[v] = if v == 270 { west } else { out[360 - v] };
-        v += 1;
     }
     out
 }
@@ -97,29 +89,28 @@ fn numbers(m: Model, z6: f32, table: &[f32], u: f32, giso: f32) -> [f32; 360]
 {
     if folds(m.iant, m.constants.sl) {
         let half = filled(m, z6, table, u, giso, 181);
-        let west = decibels(gainrel(m, table, u, 270.0), z6, giso);
+        let west = decibels(gainrel(&m, table, u, 270.0), z6, giso);
         return folded(half, west);
     }
     filled(m, z6, table, u, giso, 360)
 }
 
-// The row at elevation u, written into the lent floats once all its numbers exist.
-pub fn row(ant: Antenna, table: &[f32], u: f32, giso: f32, lent: &mut [f32]) -> PlateRow
-    ensures result_value { row_answer result ≡ row_of ant table.now u giso (length lent.old) }
+// The row at elevation u, written into the lent floats once all its numbers exist; its answer is
+// front-to-back, the entry at azimuth 0 less the greatest of those at 90 to 270.
+#[tactic(auto, using(answers::proofs::Outcome::refused_by, answers::proofs::Outcome::granted_by, antenna::proofs::Granted::granted), unfolding(crate::specs::Row::row_of, crate::specs::Row::row_after, crate::specs::Row::written_after, crate::specs::Row::measured, crate::specs::Row::numbers_of, crate::specs::Row::row_asked))]
+pub fn row(ant: Antenna, table: &[f32], u: f32, giso: f32, lent: &mut [f32]) -> Result<f32, Refusal>
+    ensures result_value { outcome result ≡ row_of ant table.now u giso (length lent.old) }
     ensures lent_after { lent.new ≡ row_after ant table.now u giso lent.old }
 {
     let own = has_sum(table, ant.sum);
     let m = ant.model;
-    let number = refusal(m, table.len(), row_asked(own, u, giso, lent.len()));
-    if 0 < number {
-        return PlateRow::Refused(number);
-    }
+    check(m, table.len(), row_asked(own, u, giso, lent.len()))?;
     let all = numbers(m, ant.peak.z6, table, u, giso);
     let ratio = front_to_back(all);
     let exist = all_finite(&all) & is_finite(ratio);
     if !exist {
-        return PlateRow::Refused(answers::LEVEL);
+        return Err(Refusal::Level);
     }
-    lay_over(&all, lent);
-    PlateRow::FrontToBack(ratio)
+    lent.copy_from_slice(&all);
+    Ok(ratio)
 }

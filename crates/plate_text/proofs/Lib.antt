@@ -1,3 +1,4 @@
--- Laws that several proofs cite: one file for each subject.
+-- Laws that several proofs cite, in crates above too: one file for each subject.
 mod GainLines
+pub mod Asked
 mod Steps

@@ -2,13 +2,14 @@
 use Rattle.std.specs.Prelude.{ℕ, cond, List, [], get_or, ltb, Float}
 use Rattle.std.specs.Float.{nan}
 use Rattle.floats.specs.Ops.{count}
-use Rattle.answers.specs.Outcome.{Outcome}
+use Rattle.answers.specs.Outcome.{Outcome, accepted}
 use Rattle.model.specs.Table.{table_size, blank_table}
 pub use Rattle.words.specs.Writing.{Wrote}
-use Rattle.antenna.specs.Gain.{Kind, graded, gain_of}
-use Rattle.plate_row.specs.Row.{row_of}
+use Rattle.answers.specs.declared.Kind.{Kind}
+use Rattle.antenna.specs.Gain.{graded, gain_of}
+use Rattle.plate_row.specs.Row.{row_of, numbers_of}
 use Rattle.request.specs.declared.Request.{Request}
-use Rattle.request.specs.Request.{request_of, table_after}
+use Rattle.request.specs.Request.{and_then, request_of, table_after}
 use Rattle.text.specs.Lines.{printed, lines_to}
 
 -- what `ccirgain` answers at an azimuth, at the elevation that is asked for
@@ -27,7 +28,11 @@ plate_text input = printed (request_of input table_size) λ (q : Request). row_t
 unfoldable pub text_in : ℕ → List ℕ → List ℕ
 text_in room input = cond (ltb room 8192) [] (plate_text input)
 
--- ---- the code's step, proved equal: the answer by a row's number
+-- ---- the code's steps, proved equal: the numbers of the row that is asked for, and the answer by a row's number
+
+unfoldable pub row_numbers : Request → List Float → Outcome (List Float)
+row_numbers q t =
+    and_then (row_of q.antenna t q.elevation q.giso 360) λ (front_to_back : Float). accepted (numbers_of q.antenna t q.elevation q.giso)
 
 abbrev pub graded_at : Float → List Float → ℕ → Outcome (Kind × Float)
 graded_at z6 row v = graded z6 (get_or row v nan)

@@ -3,6 +3,8 @@
 // The program `plate` on slices: from its whole input to its whole output, for any bytes. The text is
 // `text_in` (specs/Plate.antt): the line of the first refusal, or 360 lines, which are those of
 // `ccirgain`'s own answers (`lines_are_gains`).
+pub mod row;
+
 ghost use Rattle.std.specs.Prelude.{◌≡◌, ◌≤◌, length, take};
 ghost use Rattle.words.specs.Writing.{Wrote};
 ghost use Rattle.text.specs.Lines.{lines_to};
@@ -10,21 +12,18 @@ ghost use Rattle.plate_text.specs.Plate.{graded_at, row_text, text_in};
 
 use antenna::gain::grade;
 use model::table::blank_table;
-use plate_row::row::{PlateRow, row};
-use request::{Answer, Request, prepare};
+use request::{Request, prepare};
+use row::asked_row;
 use text::lines::{push_gain, push_refusal};
 
 // The lines of a row's numbers, of an antenna whose peak is z6.
-fn put_lines(z6: f32, row: &[f32], text: &mut [u8]) -> usize
-    requires { (length row.now ≡ 360) × (7560 ≤ length text.old) }
+fn put_lines(z6: f32, row: &[f32; 360], text: &mut [u8]) -> usize
+    requires { 7560 ≤ length text.old }
     ensures { Wrote text.old 0 (lines_to (graded_at z6 row.now) 360) text.new result }
 {
-    let mut at: usize = 0;
-    let mut v: usize = 0;
-    while v < 360 {
-        let answer = grade(z6, row[v]);
-        at = push_gain(text, at, v as u32, answer);
-        v += 1;
+    let mut at = 0;
+    for v in 0..360 {
+        at = push_gain(text, at, v as u32, grade(z6, row[v]));
     }
     at
 }
@@ -34,12 +33,9 @@ fn put_row(q: Request, table: &[f32], text: &mut [u8]) -> usize
     requires { 8192 ≤ length text.old }
     ensures { Wrote text.old 0 (row_text q table.now) text.new result }
 {
-    let ant = q.antenna;
-    let mut numbers = [0.0f32; 360];
-    let answer = row(ant, table, q.elevation, q.giso, &mut numbers);
-    match answer {
-        PlateRow::Refused(n) => push_refusal(text, 0, n),
-        PlateRow::FrontToBack(_) => put_lines(ant.peak.z6, &numbers, text),
+    match asked_row(q, table) {
+        Err(r) => push_refusal(text, 0, r),
+        Ok(numbers) => put_lines(q.antenna.peak.z6, &numbers, text),
     }
 }
 
@@ -54,11 +50,8 @@ pub fn plate(input: &[u8], text: &mut [u8]) -> usize
         return 0;
     }
     let mut table = blank_table();
-    let prepared = prepare(input, &mut table);
-    let answer = prepared.answer;
-    let request = prepared.request;
-    match answer {
-        Answer::Refused(n) => push_refusal(text, 0, n),
-        Answer::Ready => put_row(request, &table, text),
+    match prepare(input, &mut table) {
+        Err(r) => push_refusal(text, 0, r),
+        Ok(request) => put_row(request, &table, text),
     }
 }

@@ -20,9 +20,7 @@ fn exponential_sum(w: u64) -> u64
 {
     let mut term: u64 = 0x4000_0000;
     let mut sum: u64 = 0x4000_0000;
-    let mut k: u64 = 0;
-    while k < 12 {
-        k += 1;
+    for k in 1..=12 {
         term = ((term * w) >> 30) / k;
         sum += term;
     }

@@ -1,10 +1,10 @@
 -- `hf_read` and `hf_write`: the station record's bytes on one side, 57 words on the other. Definitions only.
 use Rattle.std.specs.Prelude.{ℕ, min, cond, not, List, ◌∷◌, length, get_or, eqb}
+use Rattle.answers.specs.Outcome as reader
 use Rattle.station.specs.declared.Station.{Station}
-use Rattle.station.specs.declared.Verdict.{Verdict}
-use Rattle.station.specs.declared.Verdict.TheVariants.{Accepted, Refused}
 use Rattle.station.specs.Record.{floats_of, station_of}
-use Rattle.station.specs.Answers.{Answer, accepted, refused, read_of, write_of}
+use Rattle.station.specs.Answers as writer
+use Rattle.station.specs.Answers.{read_of, write_of}
 use Rattle.packed.specs.Lists.{Left, left, part, bits, floats}
 
 -- a station's words: the mode, then the floats' bits
@@ -16,23 +16,18 @@ unfoldable pub station_in : List ℕ → Station
 station_in words = station_of (min (get_or words 0 0) 255) (part (floats words) 1 56)
 
 -- 0, with the station's words; or the refusal's number, with the lent words as they were
-unfoldable pub read_left : Answer Station → List ℕ → Left
-read_left (accepted s) words = left 0 (station_words s)
-read_left (refused n s) words = left n words
+unfoldable pub read_left : reader.Outcome Station → List ℕ → Left
+read_left (reader.accepted s) words = left 0 (station_words s)
+read_left (reader.refused n) words = left n words
 
 -- 8 for words of another number
 unfoldable pub read_call : List ℕ → List ℕ → Left
 read_call bytes words = cond (not (eqb (length words) 57)) (left 8 words) (read_left (read_of bytes) words)
 
--- the number that a verdict is returned as
-unfoldable pub code_of : Verdict → ℕ
-code_of Accepted = 0
-code_of (Refused n) = n
-
 -- 0, with the record; or the refusal's number, with the lent bytes as they were
-unfoldable pub write_left : Answer (List ℕ) → Left
-write_left (accepted bytes) = left 0 bytes
-write_left (refused n bytes) = left n bytes
+unfoldable pub write_left : writer.Answer (List ℕ) → Left
+write_left (writer.accepted bytes) = left 0 bytes
+write_left (writer.refused n bytes) = left n bytes
 
 -- 8 for words of another number
 unfoldable pub write_call : ℕ → List ℕ → List ℕ → Left

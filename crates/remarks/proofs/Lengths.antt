@@ -9,7 +9,7 @@ use lib.Ieee.{Float}
 use Rattle.quoted.specs.Quoted.{quoted}
 use Rattle.numerals.proofs.Laws.{numeral-length}
 use Rattle.answers.specs.Outcome.{Outcome, refused, accepted}
-use Rattle.antenna.specs.Gain.{Kind}
+use Rattle.answers.specs.declared.Kind.{Kind}
 use Rattle.remarks.specs.Directions.{floors_to, limits_to}
 use Rattle.remarks.specs.Remarks.{band_remark, directions, limit_line, limit_remark, row_remarks, remarked, plate_remarks, remarks_of}
 

@@ -16,15 +16,17 @@ use Rattle.antenna.specs.declared.record.Antenna.{Antenna}
 use Rattle.antenna.specs.Asked.{asked_refusal}
 use Rattle.antenna.specs.TableSum.{own_table}
 use Rattle.antenna.specs.Literals.{floor_ratio}
-use Rattle.antenna.specs.Gain.{Kind, level, floor, silence, floor_level, floored, ratio_level, decibels_of, kind_of, graded, number_at, gain_asked, gain_of}
+use Rattle.answers.specs.declared.Kind.{Kind}
+use Rattle.answers.specs.declared.Kind.TheVariants.{Level, Floor, Silence}
+use Rattle.antenna.specs.Gain.{floor_level, floored, ratio_level, decibels_of, kind_of, graded, number_at, gain_asked, gain_of}
 use Rattle.remarks.specs.Directions.{is_floor}
 
 -- what a level is not
-level-only : (z6 g : Float) → kind_of z6 g ≡ level → (eq z6 +0 ≡ false) × (eq g floor_level ≡ false)
+level-only : (z6 g : Float) → kind_of z6 g ≡ Level → (eq z6 +0 ≡ false) × (eq g floor_level ≡ false)
 unfolding kind_of
 level-only z6 g = go (eq z6 +0) (eq g floor_level)
   where
-    go : (a b : Bool) → cond a silence (cond b floor level) ≡ level → (a ≡ false) × (b ≡ false)
+    go : (a b : Bool) → cond a Silence (cond b Floor Level) ≡ Level → (a ≡ false) × (b ≡ false)
     go true b e = let z : ◌≡◌ {A = ℕ} 0 1 = cc in absurd (omega arith)
     go false true e = let z : ◌≡◌ {A = ℕ} 0 1 = cc in absurd (omega arith)
     go false false e = (refl, refl)
@@ -43,7 +45,7 @@ unfolding floored lt neg of_bits
 floor-kept = refl
 
 -- the number of a level at the limit, by the relative gain z9 and the peak z6
-limit-number : (z9 z6 giso g : Float) → decibels_of z9 z6 giso ≡ g → kind_of z6 g ≡ level → le (z9 ⊘ z6) floor_ratio ≡ true → g ≡ floor_level ⊕ giso
+limit-number : (z9 z6 giso g : Float) → decibels_of z9 z6 giso ≡ g → kind_of z6 g ≡ Level → le (z9 ⊘ z6) floor_ratio ≡ true → g ≡ floor_level ⊕ giso
 unfolding decibels_of ratio_level
 limit-number z9 z6 giso g number kind small =
     let k = level-only z6 g kind in
@@ -59,7 +61,7 @@ floor_itself : eq floor_level floor_level ≡ true
 unfolding eq neg of_bits
 floor_itself = refl
 
-limit_relative : (z9 z6 : Float) → eq z6 +0 ≡ false → le (z9 ⊘ z6) floor_ratio ≡ true → kind_of z6 (decibels_of z9 z6 +0) ≡ floor
+limit_relative : (z9 z6 : Float) → eq z6 +0 ≡ false → le (z9 ⊘ z6) floor_ratio ≡ true → kind_of z6 (decibels_of z9 z6 +0) ≡ Floor
 unfolding decibels_of ratio_level kind_of
 limit_relative z9 z6 some small = rw (some, small, floor-kept, zero-added, floor_itself)
 
@@ -76,7 +78,7 @@ answer-is a t u v giso {k} {g} h =
 
 -- a direction whose gain is at most 0.03162278 of the peak, where `ccirgain` answers a level: below the peak it is a floor, so it is
 -- counted, and its number is -30 with the maximum gain added
-pub limit-is-counted : (a : Antenna) (t : List Float) (u v giso : Float) {g r : Float} {k : Kind} → gain_of a t u v giso ≡ accepted (level, g) → gain_of a t u v +0 ≡ accepted (k, r)
+pub limit-is-counted : (a : Antenna) (t : List Float) (u v giso : Float) {g r : Float} {k : Kind} → gain_of a t u v giso ≡ accepted (Level, g) → gain_of a t u v +0 ≡ accepted (k, r)
     → le (gain_rel a.model t u v ⊘ a.peak.z6) floor_ratio ≡ true
     → (is_floor (gain_of a t u v +0) ≡ true) × (g ≡ floor_level ⊕ giso)
 unfolding is_floor
@@ -84,6 +86,6 @@ limit-is-counted a t u v giso {g} {r} {k} h below small =
     let z9 = gain_rel a.model t u v in
     let z6 = a.peak.z6 in
     let shown = answer-is a t u v giso h in
-    let kind : kind_of z6 g ≡ level = rw shown.0 at shown.1 in
-    let is-floor : k ≡ floor = sym (answer-is a t u v +0 below).1 ∙ limit_relative z9 z6 (level-only z6 g kind).0 small in
+    let kind : kind_of z6 g ≡ Level = rw shown.0 at shown.1 in
+    let is-floor : k ≡ Floor = sym (answer-is a t u v +0 below).1 ∙ limit_relative z9 z6 (level-only z6 g kind).0 small in
     (rw (below, is-floor), limit-number z9 z6 giso g shown.0 kind small)

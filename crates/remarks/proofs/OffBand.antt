@@ -16,7 +16,6 @@ use Rattle.answers.specs.Refusals.{LEVEL}
 use Rattle.answers.proofs.Outcome.{passed, same}
 use Rattle.words.specs.Floats.{float_at}
 use Rattle.model.specs.Types.{jant_of}
-use Rattle.station.specs.Answers as station
 use Rattle.station.specs.declared.Station.{Station}
 use Rattle.station.specs.Header.{width_of}
 use Rattle.station.specs.Record.{floats_in, edition_in}
@@ -31,14 +30,9 @@ use Rattle.maxgain_preview.specs.declared.Shown.{Shown}
 use Rattle.maxgain_preview.proofs.PreviewLaw.{preview_law, from-call}
 use Rattle.antenna.specs.Gain.{floor_level}
 use Rattle.request.specs.declared.Request.{Request}
-use Rattle.request.specs.Request.{read_outcome, station_in, antenna_of, tuned_of, request_of}
+use Rattle.request.specs.Request.{station_in, antenna_of, tuned_of, request_of}
 use Rattle.request.proofs.Then.{then_only}
 use Rattle.remarks.specs.Remarks.{by_ratio, off_band}
-
-read_only : (o : station.Answer Station) {s : Station} → read_outcome o ≡ accepted s → o ≡ station.accepted s
-unfolding read_outcome
-read_only (station.refused n left) e = let z : ◌≡◌ {A = ℕ} 0 1 = cc in absurd (omega arith)
-read_only (station.accepted s) e = ap station.accepted (same e)
 
 -- a station that was read has twenty parameters
 twenty : (input : List ℕ) {s : Station} → station_in input ≡ accepted s → length s.parm ≡ 20
@@ -46,7 +40,7 @@ unfolding station_in
 twenty input {s} h =
     let bytes = take 225 input in
     let fs = floats_in (width_of (edition_in bytes)) bytes in
-    let read = accepted-read bytes s (read_only _ (passed (not (eqb (length input) 237)) _ _ h).1) in
+    let read = accepted-read bytes s (passed (not (eqb (length input) 237)) _ _ h).1 in
     sym (ap (λ (r : Station). length r.parm) read.2) ∙ length-take-le 20 fs (omega (arith, floats_in_length (width_of (edition_in bytes)) bytes))
 
 -- mode 1's call, as its preview shows it

@@ -2,20 +2,22 @@
 use Rattle.std.specs.Prelude.{ℕ, zero, suc, ◌+◌, Bool, true, false, cond, ◌&&◌, List, Float}
 use Rattle.floats.specs.Ops.{count, +0}
 use Rattle.answers.specs.Outcome.{Outcome, refused, accepted}
-use Rattle.antenna.specs.Gain.{Kind, level, floor, silence, gain_of}
+use Rattle.answers.specs.declared.Kind.{Kind}
+use Rattle.answers.specs.declared.Kind.TheVariants.{Level, Floor, Silence}
+use Rattle.antenna.specs.Gain.{gain_of}
 use Rattle.request.specs.declared.Request.{Request}
 
 unfoldable pub is_floor : Outcome (Kind × Float) → Bool
 is_floor (refused n) = false
-is_floor (accepted (level, g)) = false
-is_floor (accepted (floor, g)) = true
-is_floor (accepted (silence, g)) = false
+is_floor (accepted (Level, g)) = false
+is_floor (accepted (Floor, g)) = true
+is_floor (accepted (Silence, g)) = false
 
 unfoldable pub is_level : Outcome (Kind × Float) → Bool
 is_level (refused n) = false
-is_level (accepted (level, g)) = true
-is_level (accepted (floor, g)) = false
-is_level (accepted (silence, g)) = false
+is_level (accepted (Level, g)) = true
+is_level (accepted (Floor, g)) = false
+is_level (accepted (Silence, g)) = false
 
 -- whether all answers at the azimuths below n are floors
 unfoldable pub floors_to : (ℕ → Outcome (Kind × Float)) → ℕ → Bool

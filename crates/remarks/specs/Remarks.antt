@@ -9,7 +9,7 @@ use Rattle.model.specs.Limits.{slot}
 use Rattle.model.specs.Table.{table_size, blank_table}
 use Rattle.interpolation.specs.Interpolation.{ratio_ok}
 use Rattle.station.specs.declared.Station.{Station}
-use Rattle.antenna.specs.Gain.{Kind}
+use Rattle.answers.specs.declared.Kind.{Kind}
 use Rattle.plate_row.specs.Row.{row_of}
 use Rattle.request.specs.declared.Request.{Request}
 use Rattle.request.specs.Request.{station_in, request_of, table_after}

@@ -1,34 +1,33 @@
 // Whether a plate is all floors.
 ghost use Rattle.std.specs.Prelude.{◌≡◌};
-ghost use Rattle.antenna.specs.Gain.{gain_answer};
+ghost use Rattle.answers.specs.Outcome.{outcome_as};
+ghost use Rattle.antenna.specs.Gain.{told};
 ghost use Rattle.plate_text.specs.Plate.{gain_at};
 ghost use Rattle.remarks.specs.Directions.{is_floor, floors_to};
 
+use answers::{Kind, Refusal};
 use antenna::gain::{Gain, ccirgain};
 use request::Request;
 
-pub(crate) fn is_floor(answer: Gain) -> bool
-    ensures { result ≡ is_floor (gain_answer answer) }
+#[tactic(auto, unfolding(crate::specs::Directions::is_floor))]
+pub(crate) fn is_floor(answer: Result<Gain, Refusal>) -> bool
+    ensures { result ≡ is_floor (outcome_as told answer) }
 {
     match answer {
-        Gain::Level(_) => false,
-        Gain::Floor(_) => true,
-        Gain::Silence(_) => false,
-        Gain::Refused(_) => false,
+        Ok(g) => matches!(g.kind, Kind::Floor),
+        Err(_) => false,
     }
 }
 
 // Whether all 360 directions are.
+#[tactic(auto, unfolding(crate::specs::Directions::floors_to))]
 pub(crate) fn all_floors(q: Request, table: &[f32]) -> bool
     ensures { result ≡ floors_to (gain_at q table.now) 360 }
 {
-    let ant = q.antenna;
     let mut all = true;
-    let mut v: u16 = 0;
-    while v < 360 {
-        let answer = ccirgain(ant, table, q.elevation, v as f32, q.giso);
+    for v in 0..360u16 {
+        let answer = ccirgain(q.antenna, table, q.elevation, v as f32, q.giso);
         all = all & is_floor(answer);
-        v += 1;
     }
     all
 }

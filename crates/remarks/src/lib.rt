@@ -23,27 +23,22 @@ use limits::limits;
 use lines::{push_band, push_limit};
 use model::table::blank_table;
 use model::types::jant;
-use plate_row::row::{PlateRow, row};
-use request::{Answer, Request, prepare};
-use station::Verdict;
+use plate_text::row::asked_row;
+use request::{Request, prepare, station_of};
 
 // Whether the station in the first 225 bytes of 237 is of mode 1.
+#[tactic(auto, unfolding(crate::specs::Remarks::by_ratio))]
 fn by_ratio(input: &[u8]) -> bool
     ensures { result ≡ by_ratio (station_in input.now) }
 {
-    if input.len() != 237 {
-        return false;
-    }
-    let reading = station::read(&input[..225]);
-    let verdict = reading.verdict;
-    let mode = reading.station.mode;
-    match verdict {
-        Verdict::Refused(_) => false,
-        Verdict::Accepted => mode == 1,
+    match station_of(input) {
+        Ok(s) => s.mode == 1,
+        Err(_) => false,
     }
 }
 
 // Whether the ratio of operating to design MHz is one that no three gains cover.
+#[tactic(auto, unfolding(crate::specs::Remarks::off_band, interpolation::specs::Interpolation::ratio_ok))]
 fn off_band(parm: [f32; 20]) -> bool
     ensures { result ≡ off_band parm }
 {
@@ -68,13 +63,9 @@ fn put_row(ratio: bool, q: Request, table: &[f32], out: &mut [u8]) -> usize
     requires { 256 ≤ length out.old }
     ensures { Wrote out.old 0 (plate_remarks ratio q table.now) out.new result }
 {
-    let ant = q.antenna;
-    let parm = q.parm;
-    let mut numbers = [0.0f32; 360];
-    let answer = row(ant, table, q.elevation, q.giso, &mut numbers);
-    match answer {
-        PlateRow::Refused(_) => 0,
-        PlateRow::FrontToBack(_) => put_remarks(ratio & off_band(parm), q, table, out),
+    match asked_row(q, table) {
+        Err(_) => 0,
+        Ok(_) => put_remarks(ratio & off_band(q.parm), q, table, out),
     }
 }
 
@@ -89,11 +80,8 @@ pub fn remarks(input: &[u8], out: &mut [u8]) -> usize
         return 0;
     }
     let mut table = blank_table();
-    let prepared = prepare(input, &mut table);
-    let answer = prepared.answer;
-    let request = prepared.request;
-    match answer {
-        Answer::Refused(_) => 0,
-        Answer::Ready => put_row(by_ratio(input), request, &table, out),
+    match prepare(input, &mut table) {
+        Err(_) => 0,
+        Ok(request) => put_row(by_ratio(input), request, &table, out),
     }
 }

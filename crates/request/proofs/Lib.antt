@@ -1,3 +1,3 @@
--- Laws that several proofs cite; of a step and what follows it (`Then`) for crates above too.
-mod Steps
+-- Laws of a step and what follows it (`Then`), which crates above cite too, and the first refusal.
+pub mod Steps
 pub mod Then

@@ -2,7 +2,6 @@
 use Prim.Native.Nat.{ℕ}
 use mathlib.Core.Path.{◌≡◌, refl, sym, ap, ◌∙◌}
 use mathlib.Core.Logic.{◌⊎◌, inl, inr}
-use native.Mathlib.Omega.{arith}
 use Rattle.answers.specs.Outcome.{Outcome, refused, accepted}
 use Rattle.request.specs.Request.{and_then}
 
@@ -22,7 +21,7 @@ pub record Both {A B : Type 0} (o : Outcome A) (next : A → Outcome B) (y : B) 
 
 pub then_only : {A B : Type 0} (o : Outcome A) (next : A → Outcome B) {y : B} → and_then o next ≡ accepted y → Both o next y
 unfolding and_then
-then_only (refused n) next e = let z : ◌≡◌ {A = ℕ} 0 1 = cc in absurd (omega arith)
+then_only (refused n) next e = cc
 then_only (accepted x) next e = record { first = x; accepts = refl; follows = e }
 
 -- where the first step is known

@@ -3,14 +3,11 @@ use Rattle.std.specs.Prelude.{ℕ, cond, not, List, length, take, eqb, Float}
 use Rattle.answers.specs.Outcome.{Outcome, refused, accepted}
 use Rattle.answers.specs.Refusals.{RECORD}
 use Rattle.words.specs.Floats.{float_at}
-use Rattle.station.specs.Answers as station
+use Rattle.station.specs.Answers.{read_of}
 use Rattle.station.specs.declared.Station.{Station}
 use Rattle.maxgain.specs.Maximum.{set_max_gain}
 use Rattle.antenna.specs.declared.record.Antenna.{Antenna}
 use Rattle.antenna.specs.SetUp.{set_up_of, lent_after}
-use Rattle.request.specs.declared.Answer.{Answer}
-use Rattle.request.specs.declared.Answer.TheVariants.{Ready, Refused}
-use Rattle.request.specs.declared.Prepared.{Prepared}
 use Rattle.request.specs.declared.Request.{Request}
 
 -- a step, and what follows where it accepts
@@ -18,14 +15,9 @@ unfoldable pub and_then : {A B : Type 0} → Outcome A → (A → Outcome B) →
 and_then (refused number) next = refused number
 and_then (accepted x) next = next x
 
--- the reader's outcome, without what a refusal leaves
-unfoldable pub read_outcome : station.Answer Station → Outcome Station
-read_outcome (station.refused number left) = refused number
-read_outcome (station.accepted s) = accepted s
-
 -- the station in the first 225 bytes of 237
 unfoldable pub station_in : List ℕ → Outcome Station
-station_in input = cond (not (eqb (length input) 237)) (refused RECORD) (read_outcome (station.read_of (take 225 input)))
+station_in input = cond (not (eqb (length input) 237)) (refused RECORD) (read_of (take 225 input))
 
 -- set-up of the parameters, with n floats lent for the table
 unfoldable pub antenna_of : List Float → Float → Float → ℕ → Outcome Request
@@ -48,11 +40,3 @@ left_after (accepted q) lent = lent_after q.parm lent
 
 unfoldable pub table_after : List ℕ → List Float → List Float
 table_after input lent = left_after (request_of input (length lent)) lent
-
--- what each case of the answer says
-unfoldable pub request_answer : Prepared → Outcome Request
-request_answer p = said p.answer p.request
-  where
-    said : Answer → Request → Outcome Request
-    said (Refused number) q = refused number
-    said Ready q = accepted q

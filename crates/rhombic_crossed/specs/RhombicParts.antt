@@ -1,4 +1,4 @@
--- The code's steps for type 7, proved equal to the rule of `specs/Rhombic.antt` (`rhombic-whole`). Definitions only.
+-- The code's steps for type 7, proved equal to the rule of `specs/Rhombic.antt` (`rhombic_whole`). Definitions only.
 use Rattle.std.specs.Prelude.{Float}
 use Rattle.floats.specs.Ops.{◌⊕◌, ◌⊖◌, ◌⊗◌, ◌⊘◌}
 use Rattle.sine.specs.Sine.{sine, cosine}

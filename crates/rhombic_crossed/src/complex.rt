@@ -8,6 +8,7 @@ pub struct Complex {
     pub im: f32,
 }
 
+#[tactic(auto, unfolding(crate::specs::Complex::times))]
 pub(crate) fn product(p: Complex, q: Complex) -> Complex
     ensures { result ≡ times p q }
 {
@@ -17,6 +18,7 @@ pub(crate) fn product(p: Complex, q: Complex) -> Complex
     }
 }
 
+#[tactic(auto, unfolding(crate::specs::Complex::plus))]
 pub(crate) fn add(p: Complex, q: Complex) -> Complex
     ensures { result ≡ plus p q }
 {
@@ -26,6 +28,7 @@ pub(crate) fn add(p: Complex, q: Complex) -> Complex
     }
 }
 
+#[tactic(auto, unfolding(crate::specs::Complex::scaled))]
 pub(crate) fn scale(k: f32, re: f32, im: f32) -> Complex
     ensures { result ≡ scaled k re im }
 {
@@ -35,6 +38,7 @@ pub(crate) fn scale(k: f32, re: f32, im: f32) -> Complex
     }
 }
 
+#[tactic(auto, unfolding(crate::specs::Complex::power_of))]
 pub(crate) fn power(p: Complex) -> f32
     ensures { result ≡ power_of p }
 {

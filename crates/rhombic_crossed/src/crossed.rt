@@ -16,6 +16,7 @@ pub struct Crossed {
 }
 
 // The two dipoles, at 45 degrees to the azimuth's axis.
+#[tactic(auto, unfolding(crate::specs::CrossedParts::crossed_of))]
 pub(crate) fn dipoles(k: Constants, d: Direction) -> Crossed
     ensures { result ≡ crossed_of k d }
 {
@@ -34,6 +35,7 @@ pub(crate) fn dipoles(k: Constants, d: Direction) -> Crossed
 }
 
 // The phase of the second dipole against the first, b4 and b5: type 9's are fed as one.
+#[tactic(auto, unfolding(crate::specs::CrossedParts::shift_of))]
 pub(crate) fn shift(iant: u32, p11: f32, c: Crossed, b0: f32) -> Complex
     ensures { result ≡ shift_of iant p11 c b0 }
 {
@@ -48,6 +50,7 @@ pub(crate) fn shift(iant: u32, p11: f32, c: Crossed, b0: f32) -> Complex
 }
 
 // A vertical field: s is the sine or the cosine of the elevation, re and im the ground's factors for it.
+#[tactic(auto, unfolding(crate::specs::CrossedParts::vertical_of))]
 pub(crate) fn vertical(c: Crossed, f: Complex, a0: f32, s: f32, re: f32, im: f32) -> Complex
     ensures { result ≡ vertical_of c f a0 s re im }
 {
@@ -57,6 +60,7 @@ pub(crate) fn vertical(c: Crossed, f: Complex, a0: f32, s: f32, re: f32, im: f32
 }
 
 // The horizontal field, with the ground's factors w5 and w6.
+#[tactic(auto, unfolding(crate::specs::CrossedParts::horizontal_of))]
 pub(crate) fn horizontal(c: Crossed, f: Complex, w5: f32, w6: f32) -> Complex
     ensures { result ≡ horizontal_of c f w5 w6 }
 {
@@ -72,6 +76,7 @@ pub(crate) fn horizontal(c: Crossed, f: Complex, w5: f32, w6: f32) -> Complex
 }
 
 // `gainrel`'s arm for 8, the quadrant antenna, and 9, the crossed dipoles.
+#[tactic(auto, using(crate::proofs::crossed::Whole::crossed_whole), unfolding(crate::specs::CrossedParts::crossed_gain))]
 pub fn gain_89(iant: u32, k: Constants, w: Factors, d: Direction) -> f32
     ensures { result ≡ gain89 iant k w d }
 {

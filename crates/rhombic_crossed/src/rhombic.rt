@@ -15,6 +15,7 @@ pub struct Legs {
     pub b6: f32,
 }
 
+#[tactic(auto, unfolding(crate::specs::RhombicParts::legs_of))]
 pub(crate) fn rhombus(k: Constants, d: Direction) -> Legs
     ensures { result ≡ legs_of k d }
 {
@@ -33,6 +34,7 @@ pub(crate) fn rhombus(k: Constants, d: Direction) -> Legs
 }
 
 // The current's phases along legs of length sl, r1 and r2.
+#[tactic(auto, unfolding(crate::specs::RhombicParts::current_of))]
 pub(crate) fn current(sl: f32, t5: f32, t6: f32) -> Complex
     ensures { result ≡ current_of sl t5 t6 }
 {
@@ -50,6 +52,7 @@ pub(crate) fn current(sl: f32, t5: f32, t6: f32) -> Complex
 }
 
 // The horizontal field with its image, r3 and r4.
+#[tactic(auto, unfolding(crate::specs::RhombicParts::horizontal_image))]
 pub(crate) fn horizontal_image(w: Factors, a7: f32, b7: f32) -> Complex
     ensures { result ≡ horizontal_image w a7 b7 }
 {
@@ -60,6 +63,7 @@ pub(crate) fn horizontal_image(w: Factors, a7: f32, b7: f32) -> Complex
 }
 
 // The vertical field with its image, r5 and r6.
+#[tactic(auto, unfolding(crate::specs::RhombicParts::vertical_image))]
 pub(crate) fn vertical_image(w: Factors, a7: f32, b7: f32) -> Complex
     ensures { result ≡ vertical_image w a7 b7 }
 {
@@ -70,6 +74,7 @@ pub(crate) fn vertical_image(w: Factors, a7: f32, b7: f32) -> Complex
 }
 
 // `gainrel`'s arm 7: the horizontal rhombic.
+#[tactic(auto, using(crate::proofs::rhombic::Whole::rhombic_whole), unfolding(crate::specs::RhombicParts::rhombic_gain))]
 pub fn gain_7(k: Constants, w: Factors, d: Direction) -> f32
     ensures { result ≡ gain7 k w d }
 {

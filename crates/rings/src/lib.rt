@@ -35,10 +35,8 @@ fn push_rings(out: &mut [u8], at: usize, peak: u32) -> usize
     let low = bottom(peak);
     let rings = span(peak) / 1000 + 1;
     let mut end = at;
-    let mut k: u32 = 0;
-    while k < rings {
+    for k in 0..rings {
         end = push_ring(out, end, radius(peak, low + 1000 * k));
-        k += 1;
     }
     end
 }
@@ -91,11 +89,9 @@ fn push_upper_labels(out: &mut [u8], at: usize, inner: bool, peak: u32) -> usize
     let low = bottom(peak);
     let rings = span(peak) / 1000;
     let mut end = at;
-    let mut k: u32 = 0;
-    while k < rings {
+    for k in 0..rings {
         let gain = low + 1000 * (k + 1);
         end = push_label(out, end, inner, radius(peak, gain), gain);
-        k += 1;
     }
     end
 }

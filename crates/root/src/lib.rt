@@ -23,11 +23,13 @@ pub fn isqrt(n: u64) -> u64
 
 // The same by Newton steps down from a first guess, the root or a number above it. The guess has
 // settled once its square is at most n: no step would lower it.
+#[tactic(auto, using(crate::proofs::Newton::newton_above, crate::proofs::Newton::above_zero, crate::proofs::Newton::quotient_lt, crate::proofs::Whole::root_unique))]
 fn isqrt_from(n: u64, first: u64) -> u64
     requires { (first < 2 ^ 32) × (n < suc first * suc first) }
     ensures { result ≡ root n }
 {
     let mut x = first;
+    // A step is the next guess: there is nothing to count.
     loop {
         if x * x <= n {
             break x;

@@ -1,6 +1,5 @@
 // The search for the pattern's maximum, `azmax` and `gainorm`, with the count of its readings.
-// The elevation pass has its 90 gains from `up`; an azimuth pass takes the aspect of its elevation
-// once and reads the antenna's model in place, which a call by value would copy for each reading.
+// The elevation pass has its 90 gains from `up`.
 ghost use Rattle.std.specs.Prelude.{◌≡◌, ◌+◌, ◌^◌, ◌<◌, ◌≤◌, true, length};
 ghost use Rattle.model.specs.Counts.{counts_ok};
 ghost use Rattle.model.specs.Table.{table_size};
@@ -9,7 +8,7 @@ ghost use Rattle.search.specs.Turns.{turns, azmax_turn};
 
 use crate::record::Peak;
 use model::record::Model;
-use pattern::aspect::{aspect_at, reading};
+use pattern::gainrel::gainrel;
 use pattern::passes::up;
 
 // The readings so far, and whether each of them was finite.
@@ -52,6 +51,7 @@ pub struct Search {
 }
 
 // Before any reading.
+#[tactic(auto, unfolding(crate::specs::Search::untold))]
 fn no_tally() -> Tally
     ensures { result ≡ untold }
 {
@@ -62,6 +62,7 @@ fn no_tally() -> Tally
 }
 
 // One more reading, of the gain z9.
+#[tactic(auto, unfolding(crate::specs::Search::tallied))]
 fn tally_of(t: Tally, z9: f32) -> Tally
     requires { t.readings < 2 ^ 40 }
     ensures { result ≡ tallied t z9 }
@@ -73,6 +74,7 @@ fn tally_of(t: Tally, z9: f32) -> Tally
 }
 
 // The centre of a plateau of j readings that ends at v.
+#[tactic(auto, unfolding(crate::specs::Search::plateau_centre))]
 fn plateau_centre(vmax: f32, v: f32, j: u32) -> f32
     ensures { result ≡ plateau_centre vmax v j }
 {
@@ -84,6 +86,7 @@ fn plateau_centre(vmax: f32, v: f32, j: u32) -> f32
 }
 
 // `azmax`'s rule for one reading: a new peak does not clear j.
+#[tactic(auto, unfolding(crate::specs::Search::azmax_read))]
 fn azmax_read(s: Azimuths, vm: f32, z9: f32) -> Azimuths
     requires { (s.j < 2 ^ 31) × (s.tally.readings < 2 ^ 40) }
     ensures { result ≡ azmax_read s vm z9 }
@@ -118,46 +121,32 @@ fn azmax_read(s: Azimuths, vm: f32, z9: f32) -> Azimuths
 }
 
 // How often Fortran's DO loop turns, by its count as a real number.
+#[tactic(auto, unfolding(crate::specs::Search::turns_in))]
 fn turns_in(x: f32) -> u32
     ensures value { result ≡ turns_in x }
     ensures upper_bound { result < 2 ^ 31 }
 {
-    let n = numeric::float::to_i32(x);
-    if n < 0 { 0 } else { n as u32 }
+    numeric::float::to_i32(x).max(0) as u32
 }
 
 // `count` readings, vm degrees apart.
-fn azmax_turns(m: Model, table: &[f32], u: f32, vm: f32, s: Azimuths, count: u32) -> Azimuths
-    requires { (counts_ok m ≡ true) × (table_size ≤ length table.now) × (s.tally.readings < 2 ^ 36) × (s.j ≡ 0) × (count < 2 ^ 31) }
-    ensures value { result ≡ turns (azmax_turn m table.now u vm) s count }
+#[tactic(auto, using(crate::proofs::gainorm::Readings::azmax_reads), unfolding(crate::specs::Turns::turns, crate::specs::Turns::azmax_turn))]
+fn azmax_turns(m: &Model, table: &[f32], u: f32, vm: f32, s: Azimuths, count: u32) -> Azimuths
+    requires { (counts_ok m.now ≡ true) × (table_size ≤ length table.now) × (s.tally.readings < 2 ^ 36) × (s.j ≡ 0) × (count < 2 ^ 31) }
+    ensures value { result ≡ turns (azmax_turn m.now table.now u vm) s count }
     ensures readings_value { result.tally.readings ≡ s.tally.readings + count }
 {
-    let seen = aspect_at(m, u);
     let mut out = s;
-    let mut i: u32 = 0;
-    while i < count {
-        let z9 = reading(
-            seen,
-            &m.trig.a,
-            &m.trig.b,
-            &m.elements.iek,
-            &m.elements.fi,
-            &m.elements.rim,
-            &m.elements.x,
-            &m.elements.y,
-            &m.elements.rl,
-            table,
-            out.v,
-        );
-        out = azmax_read(out, vm, z9);
-        i += 1;
+    for i in 0..count {
+        out = azmax_read(out, vm, gainrel(m, table, u, out.v));
     }
     out
 }
 
 // `azmax` from vmin1 to vmax1 in steps of vm.
+#[tactic(auto, using(crate::proofs::gainorm::Turns::azmax_turned))]
 fn azmax(
-    m: Model,
+    m: &Model,
     table: &[f32],
     u: f32,
     vmin1: f32,
@@ -167,8 +156,8 @@ fn azmax(
     vmax0: f32,
     tally: Tally,
 ) -> Azimuths
-    requires { (counts_ok m ≡ true) × (table_size ≤ length table.now) × (tally.readings < 2 ^ 36) }
-    ensures value { result ≡ azmax_of m table.now u vmin1 vmax1 vm rmax0 vmax0 tally }
+    requires { (counts_ok m.now ≡ true) × (table_size ≤ length table.now) × (tally.readings < 2 ^ 36) }
+    ensures value { result ≡ azmax_of m.now table.now u vmin1 vmax1 vm rmax0 vmax0 tally }
     ensures readings_bound { result.tally.readings < tally.readings + 2 ^ 31 }
 {
     let count = turns_in((vmax1 - vmin1 + vm) / vm);
@@ -183,6 +172,7 @@ fn azmax(
 }
 
 // The sweep keeps the first of equal gains.
+#[tactic(auto, unfolding(crate::specs::Search::sweep_read))]
 fn sweep_read(s: Azimuths, z9: f32) -> Azimuths
     requires { s.tally.readings < 2 ^ 40 }
     ensures { result ≡ sweep_read s z9 }
@@ -202,41 +192,26 @@ fn sweep_read(s: Azimuths, z9: f32) -> Azimuths
 }
 
 // Nineteen readings, 10 degrees apart, from 270 on.
-fn sweep(m: Model, table: &[f32], u: f32, vmax: f32) -> Azimuths
-    requires { (counts_ok m ≡ true) × (table_size ≤ length table.now) }
-    ensures value { result ≡ sweep_of m table.now u vmax }
+#[tactic(auto, unfolding(crate::specs::Search::untold, crate::specs::Turns::turns, crate::specs::Turns::sweep_turn, crate::specs::Search::sweep_read, crate::specs::Search::tallied))]
+fn sweep(m: &Model, table: &[f32], u: f32, vmax: f32) -> Azimuths
+    requires { (counts_ok m.now ≡ true) × (table_size ≤ length table.now) }
+    ensures value { result ≡ sweep_of m.now table.now u vmax }
     ensures readings_value { result.tally.readings ≡ 19 }
 {
-    let seen = aspect_at(m, u);
-    let tally = no_tally();
     let mut out = Azimuths {
         rmax: 0.0,
         vmax,
         j: 0,
         v: 270.0,
-        tally,
+        tally: no_tally(),
     };
-    let mut i: u32 = 0;
-    while i < 19 {
-        let z9 = reading(
-            seen,
-            &m.trig.a,
-            &m.trig.b,
-            &m.elements.iek,
-            &m.elements.fi,
-            &m.elements.rim,
-            &m.elements.x,
-            &m.elements.y,
-            &m.elements.rl,
-            table,
-            out.v,
-        );
-        out = sweep_read(out, z9);
-        i += 1;
+    for i in 0..19u32 {
+        out = sweep_read(out, gainrel(m, table, u, out.v));
     }
     out
 }
 
+#[tactic(auto, unfolding(crate::specs::Search::plane_elevation))]
 fn plane_elevation(iant: u32) -> f32
     ensures { result ≡ plane_elevation iant }
 {
@@ -244,22 +219,23 @@ fn plane_elevation(iant: u32) -> f32
 }
 
 // The horizontal plane of a slewed or tropical pattern, from the start azimuth vmax.
-fn plane(m: Model, table: &[f32], vmax: f32) -> Aimed
-    requires { (counts_ok m ≡ true) × (table_size ≤ length table.now) }
-    ensures value { result ≡ plane_of m table.now vmax }
+#[tactic(auto, unfolding(crate::specs::Search::plane_of))]
+fn plane(m: &Model, table: &[f32], vmax: f32) -> Aimed
+    requires { (counts_ok m.now ≡ true) × (table_size ≤ length table.now) }
+    ensures value { result ≡ plane_of m.now table.now vmax }
     ensures readings_bound { result.tally.readings < 2 ^ 32 }
 {
     let u = plane_elevation(m.iant);
     let s = sweep(m, table, u, vmax);
     let v = s.vmax;
     let r = azmax(m, table, u, v - 10.0, v + 10.0, 1.0, s.rmax, v, s.tally);
-    let tally = r.tally;
     Aimed {
         vmax: r.vmax,
-        tally,
+        tally: r.tally,
     }
 }
 
+#[tactic(auto, unfolding(crate::specs::Search::plane_searched))]
 fn plane_searched(iant: u32, slewed: bool) -> bool
     ensures { result ≡ plane_searched iant slewed }
 {
@@ -267,19 +243,23 @@ fn plane_searched(iant: u32, slewed: bool) -> bool
 }
 
 // The azimuth of the elevation pass.
-fn aim(m: Model, table: &[f32], vmax: f32) -> Aimed
-    requires { (counts_ok m ≡ true) × (table_size ≤ length table.now) }
-    ensures value { result ≡ aim_of m table.now vmax }
+#[tactic(auto, unfolding(crate::specs::Search::aim_of, crate::specs::Search::untold))]
+fn aim(m: &Model, table: &[f32], vmax: f32) -> Aimed
+    requires { (counts_ok m.now ≡ true) × (table_size ≤ length table.now) }
+    ensures value { result ≡ aim_of m.now table.now vmax }
     ensures readings_bound { result.tally.readings < 2 ^ 32 }
 {
     if plane_searched(m.iant, m.slewed) {
         return plane(m, table, vmax);
     }
-    let tally = no_tally();
-    Aimed { vmax: 0.0, tally }
+    Aimed {
+        vmax: 0.0,
+        tally: no_tally(),
+    }
 }
 
 // The elevation pass keeps the last of equal gains.
+#[tactic(auto, unfolding(crate::specs::Search::elevation_read))]
 fn elevation_read(e: Elevations, u: f32, z9: f32) -> Elevations
     requires { e.tally.readings < 2 ^ 40 }
     ensures { result ≡ elevation_read e u z9 }
@@ -296,22 +276,21 @@ fn elevation_read(e: Elevations, u: f32, z9: f32) -> Elevations
 }
 
 // Elevations 1 to 90 at azimuth v.
-fn elevation_pass(m: Model, table: &[f32], v: f32, e: Elevations) -> Elevations
-    requires { (counts_ok m ≡ true) × (table_size ≤ length table.now) × (e.tally.readings < 2 ^ 36) }
-    ensures value { result ≡ elevations_of m table.now v e }
+#[tactic(auto, using(pattern::proofs::passes::Entries::up_at), unfolding(crate::specs::Turns::elevations_to, crate::specs::Search::elevation_read, crate::specs::Search::tallied))]
+fn elevation_pass(m: &Model, table: &[f32], v: f32, e: Elevations) -> Elevations
+    requires { (counts_ok m.now ≡ true) × (table_size ≤ length table.now) × (e.tally.readings < 2 ^ 36) }
+    ensures value { result ≡ elevations_of m.now table.now v e }
     ensures readings_value { result.tally.readings ≡ e.tally.readings + 90 }
 {
     let gains = up(m, table, v);
     let mut out = e;
-    let mut iu: u16 = 0;
-    while iu < 90 {
-        let z9 = gains[iu as usize];
-        iu += 1;
-        out = elevation_read(out, iu as f32, z9);
+    for i in 0..90u16 {
+        out = elevation_read(out, (i + 1) as f32, gains[i as usize]);
     }
     out
 }
 
+#[tactic(auto, unfolding(crate::specs::Search::wrapped))]
 fn wrap(v: f32) -> f32
     ensures { result ≡ wrapped v }
 {
@@ -319,21 +298,24 @@ fn wrap(v: f32) -> f32
 }
 
 // The last azimuth pass, 5 degrees to each side of v.
-fn refine(m: Model, table: &[f32], e: Elevations, v: f32) -> Search
-    requires { (counts_ok m ≡ true) × (table_size ≤ length table.now) × (e.tally.readings < 2 ^ 36) }
-    ensures { result ≡ refined_of m table.now e v }
+#[tactic(auto, unfolding(crate::specs::Search::refined_of))]
+fn refine(m: &Model, table: &[f32], e: Elevations, v: f32) -> Search
+    requires { (counts_ok m.now ≡ true) × (table_size ≤ length table.now) × (e.tally.readings < 2 ^ 36) }
+    ensures { result ≡ refined_of m.now table.now e v }
 {
-    let umax = e.umax;
-    let s = azmax(m, table, umax, v - 5.0, v + 5.0, 1.0, e.wmx, v, e.tally);
+    let s = azmax(m, table, e.umax, v - 5.0, v + 5.0, 1.0, e.wmx, v, e.tally);
     let peak = Peak {
         z6: s.rmax,
-        umax,
+        umax: e.umax,
         vmax: wrap(s.vmax),
     };
-    let tally = s.tally;
-    Search { peak, tally }
+    Search {
+        peak,
+        tally: s.tally,
+    }
 }
 
+#[tactic(auto, unfolding(crate::specs::Search::unrefined))]
 fn leave_unrefined(e: Elevations, v: f32) -> Search
     ensures { result ≡ unrefined e v }
 {
@@ -342,10 +324,13 @@ fn leave_unrefined(e: Elevations, v: f32) -> Search
         umax: e.umax,
         vmax: v,
     };
-    let tally = e.tally;
-    Search { peak, tally }
+    Search {
+        peak,
+        tally: e.tally,
+    }
 }
 
+#[tactic(auto, unfolding(crate::specs::Search::last_searched))]
 fn last_searched(iant: u32, slewed: bool) -> bool
     ensures { result ≡ last_searched iant slewed }
 {
@@ -354,22 +339,21 @@ fn last_searched(iant: u32, slewed: bool) -> bool
 
 // `gainorm`: the pattern's maximum, from the start values of umax and vmax. Inner step: its model
 // and its table are those that set-up has made.
-pub fn gainorm(m: Model, table: &[f32], start: Peak) -> Search
-    requires { (counts_ok m ≡ true) × (table_size ≤ length table.now) }
-    ensures { result ≡ gainorm_of m table.now start }
+#[tactic(auto, unfolding(crate::specs::Search::gainorm_of, crate::specs::Search::raised_of))]
+pub fn gainorm(m: &Model, table: &[f32], start: Peak) -> Search
+    requires { (counts_ok m.now ≡ true) × (table_size ≤ length table.now) }
+    ensures { result ≡ gainorm_of m.now table.now start }
 {
     let a = aim(m, table, start.vmax);
-    let v = a.vmax;
-    let tally = a.tally;
     let level = Elevations {
         wmx: 0.0,
         umax: start.umax,
-        tally,
+        tally: a.tally,
     };
-    let e = elevation_pass(m, table, v, level);
+    let e = elevation_pass(m, table, a.vmax, level);
     if last_searched(m.iant, m.slewed) {
-        refine(m, table, e, v)
+        refine(m, table, e, a.vmax)
     } else {
-        leave_unrefined(e, v)
+        leave_unrefined(e, a.vmax)
     }
 }

@@ -2,13 +2,15 @@
 ghost use Rattle.std.specs.Prelude.{◌≡◌, length};
 ghost use Rattle.board.specs.Calls.{empty_answer, empty_leaves, join_answer, join_leaves, leave_answer, leave_leaves, show_answer, show_numbers, show_ids};
 
+use packed::status;
+
 // An empty board over 6,497 words: 0; or 8 for words of another number.
 #[unsafe(no_mangle)]
 pub extern "C" fn hf_board_empty(board: &mut [u32]) -> u32
     ensures value { result ≡ empty_answer board.old }
     ensures board_after { board.new ≡ empty_leaves board.old }
 {
-    board::empty(board) as u32
+    status(board::empty(board))
 }
 
 // A station joins with its id and its plate row: 0, or the refusal.
@@ -17,7 +19,7 @@ pub extern "C" fn hf_board_join(board: &mut [u32], id: u32, row: &[f32]) -> u32
     ensures value { result ≡ join_answer board.old id row.now }
     ensures board_after { board.new ≡ join_leaves board.old id row.now }
 {
-    board::join(board, id, row) as u32
+    status(board::join(board, id, row))
 }
 
 // The station of this id leaves: 0, or the refusal.
@@ -26,7 +28,7 @@ pub extern "C" fn hf_board_leave(board: &mut [u32], id: u32) -> u32
     ensures value { result ≡ leave_answer board.old id }
     ensures board_after { board.new ≡ leave_leaves board.old id }
 {
-    board::leave(board, id) as u32
+    status(board::leave(board, id))
 }
 
 // The board over 360 numbers and 360 ids: 0, or the refusal.
@@ -36,5 +38,5 @@ pub extern "C" fn hf_board_show(board: &[u32], numbers: &mut [f32], ids: &mut [u
     ensures numbers_after { numbers.new ≡ show_numbers board.now numbers.old ids.old }
     ensures ids_after { ids.new ≡ show_ids board.now numbers.old ids.old }
 {
-    board::show(board, numbers, ids) as u32
+    status(board::show(board, numbers, ids))
 }

@@ -16,9 +16,9 @@ use Rattle.model.specs.Limits.{slot, in_band}
 use Rattle.model.specs.Counts.{count_ok}
 use Rattle.model.specs.Types.{jant_of, type_ok, array_type, log_periodic, crossed_type}
 use Rattle.model.specs.Table.{table_size}
+use Rattle.std.proofs.Common.{Some, None}
 use Rattle.slots.specs.Told.{number_of}
 use Rattle.slots.specs.Meaning.{Lowest, Unbroken}
-use Rattle.slots.specs.declared.Why.TheVariants.{Nothing, Broken}
 use Rattle.slots.proofs.Lowest.{told-lowest, told-nothing}
 use Rattle.slots.proofs.Numbers.{some, told-number, some-not-finite, one-slot, two-slots}
 use Rattle.search.specs.Literals.{full_circle}
@@ -128,10 +128,10 @@ module _ (p : List Float) where
       go true t = rw (value twenty iant, type iant, mode iant, band iant t, count iant t, aim iant t)
       go false t = rw (value twenty iant, type iant, t)
 
-  pub why_lowest : {n s : ℕ} → why_of p ≡ Broken n s → Lowest (breaks p) n s
+  pub why_lowest : {n s : ℕ} → why_of p ≡ Some (n, s) → Lowest (breaks p) n s
   unfolding why_of
   why_lowest = told-lowest (breaks p)
 
-  pub why_nothing : why_of p ≡ Nothing → Unbroken (breaks p)
+  pub why_nothing : why_of p ≡ None → Unbroken (breaks p)
   unfolding why_of
   why_nothing = told-nothing (breaks p)

@@ -6,8 +6,7 @@ use Rattle.answers.specs.Refusals.{VALUE, TYPE, BAND, COUNT, AIM}
 use Rattle.floats.specs.Literals.{ninety}
 use Rattle.floats.specs.Ops.{+0}
 use Rattle.floats.specs.Ranges.{between}
-use Rattle.slots.specs.Told.{told}
-use Rattle.slots.specs.declared.Why.{Why}
+use Rattle.slots.specs.Told.{Why, told}
 use Rattle.model.specs.Limits.{slot, in_band}
 use Rattle.model.specs.Types.{jant_of, type_ok, array_type, log_periodic, crossed_type}
 use Rattle.model.specs.Counts.{count_ok}

@@ -1,34 +1,41 @@
 // Which slot a refusal of set-up is about.
 ghost use Rattle.std.specs.Prelude.{◌≡◌};
-ghost use Rattle.slots.specs.Told.{lowest};
-ghost use Rattle.set_up_why.specs.Why.{mhz_slot, elements_slot, dipoles_slot, slew_slot, elevation_slot, azimuth_slot, elements_ok, count_broken, aim_broken, broken, breaks, why_of};
+ghost use Rattle.answers.specs.Outcome.{number};
+ghost use Rattle.slots.specs.Told.{told_of};
+ghost use Rattle.set_up_why.specs.Why.{mhz_slot, elements_slot, dipoles_slot, slew_slot, elevation_slot, azimuth_slot, count_broken, aim_broken, broken, why_of};
 
+use answers::Refusal;
 use floats::range::is_between;
 use model::counts::count_ok;
 use model::limits::in_band;
 use model::types::{array_type, crossed_type, jant, log_periodic, type_ok};
-use numeric::float::{is_finite, to_usize};
-use slots::Why;
+use numeric::float::is_finite;
+use parameters::limits::elements_ok;
+use slots::{Broken, lowest_broken};
 
 // Operating or design MHz.
+#[tactic(auto, unfolding(crate::specs::Why::mhz_slot))]
 fn mhz_slot(iant: u32, s: usize) -> bool
     ensures { result ≡ mhz_slot iant s }
 {
     (s == 4) | (array_type(iant) & (s == 7)) | (crossed_type(iant) & (s == 5))
 }
 
+#[tactic(auto, unfolding(crate::specs::Why::elements_slot))]
 fn elements_slot(iant: u32, s: usize) -> bool
     ensures { result ≡ elements_slot iant s }
 {
     log_periodic(iant) & (s == 5)
 }
 
+#[tactic(auto, unfolding(crate::specs::Why::dipoles_slot))]
 fn dipoles_slot(iant: u32, s: usize) -> bool
     ensures { result ≡ dipoles_slot iant s }
 {
     array_type(iant) & ((s == 5) | (s == 6))
 }
 
+#[tactic(auto, unfolding(crate::specs::Why::slew_slot))]
 fn slew_slot(iant: u32, s: usize) -> bool
     ensures { result ≡ slew_slot iant s }
 {
@@ -36,6 +43,7 @@ fn slew_slot(iant: u32, s: usize) -> bool
 }
 
 // The start elevation.
+#[tactic(auto, unfolding(crate::specs::Why::elevation_slot))]
 fn elevation_slot(iant: u32, s: usize) -> bool
     ensures { result ≡ elevation_slot iant s }
 {
@@ -44,7 +52,8 @@ fn elevation_slot(iant: u32, s: usize) -> bool
         | (((iant == 4) | crossed_type(iant)) & (s == 10))
 }
 
-// The start azimuth.
+// The start azimuth: the next slot, but by the list that its definition has.
+#[tactic(auto, unfolding(crate::specs::Why::azimuth_slot))]
 fn azimuth_slot(iant: u32, s: usize) -> bool
     ensures { result ≡ azimuth_slot iant s }
 {
@@ -53,19 +62,14 @@ fn azimuth_slot(iant: u32, s: usize) -> bool
         | (((iant == 4) | crossed_type(iant)) & (s == 11))
 }
 
-fn elements_ok(x: f32) -> bool
-    ensures { result ≡ elements_ok x }
-{
-    let nel = to_usize(x);
-    (2 <= nel) & (nel <= 30)
-}
-
+#[tactic(auto, unfolding(crate::specs::Why::count_broken, crate::specs::Why::elements_ok))]
 fn count_broken(iant: u32, s: usize, x: f32) -> bool
     ensures { result ≡ count_broken iant s x }
 {
     (elements_slot(iant, s) & !elements_ok(x)) | (dipoles_slot(iant, s) & !count_ok(x))
 }
 
+#[tactic(auto, unfolding(crate::specs::Why::aim_broken))]
 fn aim_broken(iant: u32, s: usize, x: f32) -> bool
     ensures { result ≡ aim_broken iant s x }
 {
@@ -75,53 +79,25 @@ fn aim_broken(iant: u32, s: usize, x: f32) -> bool
 }
 
 // Whether the number x in slot s breaks a limit.
-fn is_broken(iant: u32, number: u8, s: usize, x: f32) -> bool
-    ensures { result ≡ broken iant number s x }
+#[tactic(auto, unfolding(crate::specs::Why::broken))]
+fn is_broken(iant: u32, limit: Refusal, s: usize, x: f32) -> bool
+    ensures { result ≡ broken iant (number limit) s x }
 {
-    if number == answers::VALUE {
-        return !is_finite(x);
+    match limit {
+        Refusal::Value => !is_finite(x),
+        Refusal::Type => (s == 1) & !type_ok(iant),
+        Refusal::Band => mhz_slot(iant, s) & !in_band(x),
+        Refusal::Count => count_broken(iant, s, x),
+        Refusal::Aim => aim_broken(iant, s, x),
+        _ => false,
     }
-    if number == answers::TYPE {
-        return (s == 1) & !type_ok(iant);
-    }
-    if number == answers::BAND {
-        return mhz_slot(iant, s) & !in_band(x);
-    }
-    if number == answers::COUNT {
-        return count_broken(iant, s, x);
-    }
-    if number == answers::AIM {
-        return aim_broken(iant, s, x);
-    }
-    false
-}
-
-// The lowest slot that breaks a limit.
-fn lowest_slot(number: u8, p: [f32; 20]) -> Why
-    ensures { result ≡ lowest (breaks p) number 20 0 }
-{
-    let iant = jant(p[1]);
-    let mut s: usize = 0;
-    while s < 20 {
-        if is_broken(iant, number, s, p[s]) {
-            return Why::Broken(number, s as u32);
-        }
-        s += 1;
-    }
-    Why::Nothing
 }
 
 // The lowest number that set-up refuses p under for a slot's sake, and the lowest slot that breaks it.
-pub fn why(p: [f32; 20]) -> Why
-    ensures { result ≡ why_of p }
+#[tactic(auto, unfolding(crate::specs::Why::why_of, crate::specs::Why::breaks))]
+pub fn why(p: [f32; 20]) -> Option<Broken>
+    ensures { told_of result ≡ why_of p }
 {
-    let mut number: u8 = answers::VALUE;
-    while number <= answers::AIM {
-        let found = lowest_slot(number, p);
-        match found {
-            Why::Broken(n, s) => return Why::Broken(n, s),
-            Why::Nothing => number += 1,
-        }
-    }
-    Why::Nothing
+    let iant = jant(p[1]);
+    lowest_broken(|limit, s| is_broken(iant, limit, s, p[s]))
 }

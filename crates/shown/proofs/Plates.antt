@@ -11,16 +11,17 @@ use Rattle.answers.specs.Refusals.{SPAN}
 use Rattle.hundredths.specs.Hundredths.{in_span}
 use Rattle.hundredths.specs.Raised.{raised_of, lowered}
 use Rattle.hundredths.proofs.Raised.{lowered-raised}
-use Rattle.antenna.specs.Gain.{Kind}
+use Rattle.answers.specs.declared.Kind.{Kind}
+use Rattle.answers.specs.declared.Kind.TheVariants as kind
 use Rattle.request.specs.Request.{and_then}
 use Rattle.shown.specs.InOrder.{in_order}
-use Rattle.shown.specs.Plate.{in_hundredths, plate_of, kind_coded, gain_in}
+use Rattle.shown.specs.Plate.{in_hundredths, plate_of, gain_in}
 use Rattle.shown.proofs.InOrder.{in_order_same, in_order_accepted, in_order_refused}
 
 -- the entry of a number in span, by its raised hundredths
-module _ (kinds out : List ℕ) (numbers : List Float) (k : ℕ) where
+module _ (kinds : List Kind) (out : List ℕ) (numbers : List Float) (k : ℕ) where
   pub entry-shown : (in_span (at numbers k) ≡ true) × (get_or out k 0 ≡ raised_of (at numbers k))
-      → in_hundredths (gain_in kinds numbers k) ≡ accepted (kind_coded (get_or kinds k 0), lowered (get_or out k 0))
+      → in_hundredths (gain_in kinds numbers k) ≡ accepted (get_or kinds k kind.Level, lowered (get_or out k 0))
   unfolding in_hundredths
   entry-shown h = rw (h.0, h.1, lowered-raised (at numbers k) h.0)
 

@@ -5,12 +5,13 @@ use Rattle.std.specs.Float.Ieee.Scale.{finite}
 use Rattle.floats.specs.Ops.{count, at}
 use Rattle.answers.specs.Outcome.{Outcome, refused, accepted}
 use Rattle.answers.specs.Refusals.{VALUE, AIM}
+use Rattle.answers.specs.declared.Kind.{Kind}
+use Rattle.answers.specs.declared.Kind.TheVariants as kind
 use Rattle.model.specs.Limits.{slot}
 use Rattle.station.specs.declared.Station.{Station}
 use Rattle.curtain_pattern.specs.Literals.{n99999}
 use Rattle.curtain.specs.Answers.{station_refusal_of, curtain_gain}
 use Rattle.curtain.specs.Factor.{factor_found}
-use Rattle.antenna.specs.Gain.{Kind, level}
 use Rattle.plate_row.specs.Row.{elevation_ok}
 use Rattle.request.specs.Request.{and_then}
 use Rattle.shown.specs.Plate.{Entry, plate_of}
@@ -39,7 +40,7 @@ curtain_refusal parm mhz design u =
 
 -- "Curtain numbers are always levels"
 unfoldable pub level_at : List Float → Float → Float → ℕ → Outcome (Kind × Float)
-level_at parm factor u v = and_then (curtain_gain parm (count v) u factor) λ (x : Float). accepted (level, x)
+level_at parm factor u v = and_then (curtain_gain parm (count v) u factor) λ (x : Float). accepted (kind.Level, x)
 
 -- with MHz, design MHz and the elevation that stand behind the record; the MHz that counts is slot 4's
 unfoldable pub curtain_plate : Station → Float → Float → Float → Outcome (List Entry)

@@ -3,7 +3,8 @@ use Rattle.std.specs.Prelude.{ℕ, List, Float}
 use Rattle.floats.specs.Ops.{count}
 use Rattle.answers.specs.Outcome.{Outcome}
 use Rattle.model.specs.Table.{table_size, blank_table}
-use Rattle.antenna.specs.Gain.{Kind, gain_of}
+use Rattle.answers.specs.declared.Kind.{Kind}
+use Rattle.antenna.specs.Gain.{gain_of}
 use Rattle.plate_row.specs.Row.{row_of}
 use Rattle.request.specs.declared.Request.{Request}
 use Rattle.request.specs.Request.{and_then, request_of, table_after}

@@ -8,45 +8,29 @@ mod gains;
 mod stations;
 
 ghost use Rattle.std.specs.Prelude.{◌≡◌, length};
-ghost use Rattle.answers.specs.Outcome.{refused};
-ghost use Rattle.shown.specs.Plate.{shown_answer};
+ghost use Rattle.answers.specs.Outcome.{outcome_as};
+ghost use Rattle.shown.specs.Plate.{entries_of};
 ghost use Rattle.shown.specs.Shown.{read_plate, shown_of};
 
+use answers::{Kind, Refusal};
 use curtains::show_curtain;
-use station::{Station, Verdict};
+use request::station_of;
+use station::Station;
 use stations::show_station;
 use words::big_endian::float_at;
 
-// The answer: a plate, or the number of the refusal.
-#[derive(Clone, Copy)]
-pub enum Answer {
-    Plate,
-    Refused(u8),
-}
-
-// The answer with the gains at azimuths 0 to 359 beside it, which say nothing beside a refusal:
-// hundredths as crate `hundredths` raises them, and kinds, 0 a level, 1 a floor, 2 a silence.
+// The gains at azimuths 0 to 359: hundredths as crate `hundredths` raises them, and their kinds.
 #[derive(Clone, Copy)]
 pub struct Shown {
-    pub answer: Answer,
     pub numbers: [u32; 360],
-    pub kinds: [u8; 360],
-}
-
-pub(crate) fn refuse(number: u8) -> Shown
-    ensures { shown_answer result ≡ refused number }
-{
-    Shown {
-        answer: Answer::Refused(number),
-        numbers: [0; 360],
-        kinds: [0; 360],
-    }
+    pub kinds: [Kind; 360],
 }
 
 // The plate of the record that was read.
-fn show_read(input: &[u8], s: Station) -> Shown
+#[tactic(auto, unfolding(crate::specs::Shown::read_plate))]
+fn show_read(input: &[u8], s: Station) -> Result<Shown, Refusal>
     requires { length input.now ≡ 237 }
-    ensures { shown_answer result ≡ read_plate input.now s }
+    ensures { outcome_as entries_of result ≡ read_plate input.now s }
 {
     if s.mode != 3 {
         return show_station(input);
@@ -58,17 +42,10 @@ fn show_read(input: &[u8], s: Station) -> Shown
 }
 
 // The plate that these bytes ask for.
-pub fn show(input: &[u8]) -> Shown
-    ensures { shown_answer result ≡ shown_of input.now }
+#[tactic(auto, unfolding(crate::specs::Shown::shown_of, request::specs::Request::and_then))]
+pub fn show(input: &[u8]) -> Result<Shown, Refusal>
+    ensures { outcome_as entries_of result ≡ shown_of input.now }
 {
-    if input.len() != 237 {
-        return refuse(answers::RECORD);
-    }
-    let reading = station::read(&input[..225]);
-    let verdict = reading.verdict;
-    let station = reading.station;
-    match verdict {
-        Verdict::Refused(n) => refuse(n),
-        Verdict::Accepted => show_read(input, station),
-    }
+    let station = station_of(input)?;
+    show_read(input, station)
 }

@@ -12,7 +12,7 @@ use lib.Ieee.{Float}
 use Rattle.answers.specs.Outcome.{Outcome, refused, accepted}
 use Rattle.answers.specs.Refusals.{SPAN}
 use Rattle.answers.proofs.Outcome.{same}
-use Rattle.antenna.specs.Gain.{Kind}
+use Rattle.answers.specs.declared.Kind.{Kind}
 use Rattle.hundredths.specs.Hundredths.{in_span, hundredths_of}
 use Rattle.request.specs.Request.{and_then}
 use Rattle.shown.specs.InOrder.{in_order}

@@ -10,7 +10,7 @@ use Rattle.answers.proofs.Outcome.{passed}
 use Rattle.words.specs.Floats.{float_at}
 use Rattle.station.specs.declared.Station.{Station}
 use Rattle.request.specs.Request.{and_then}
-use Rattle.antenna.specs.Gain.{Kind}
+use Rattle.answers.specs.declared.Kind.{Kind}
 use Rattle.shown.specs.Plate.{Entry, plate_of}
 use Rattle.shown.specs.StationPlate.{row_plate, station_plate}
 use Rattle.shown.specs.CurtainPlate.{factor_of, curtain_refusal, level_at, curtain_plate}

@@ -65,6 +65,7 @@ fn reduced(a: f32) -> Angle
 }
 
 // The term after p: the divisor is j (j + 1).
+#[tactic(auto, using(crate::proofs::Terms::first_product, crate::proofs::Terms::second_product), unfolding(crate::specs::Sine::next_term))]
 fn next_term(t: u64, j: u64, p: u64) -> u64
     requires { (t ≤ quarter_turn) × (p ≤ 2 ^ 31) × (1 ≤ j) × (j ≤ 15) }
     ensures { result ≡ Sine.next_term t j p }
@@ -82,6 +83,7 @@ fn sums(t: u64, start: u64, n: u64, first: u64) -> Series
     let mut p = first;
     let mut j = start;
     let mut left = n;
+    // Two terms a turn, so no range fits.
     while left > 1 {
         let q = next_term(t, j, p);
         added += p;
@@ -98,6 +100,7 @@ fn sums(t: u64, start: u64, n: u64, first: u64) -> Series
 }
 
 // What is left of a sum, cut to 0..2^30.
+#[tactic(auto, unfolding(crate::specs::Sine::cut))]
 fn cut(s: Series) -> u64
     ensures { result ≡ Sine.cut (s.added, s.taken) }
 {

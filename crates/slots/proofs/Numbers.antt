@@ -8,9 +8,8 @@ use lib.ListN.{get_or}
 use lib.Ieee.{Float, nan}
 use lib.Ieee.Scale.{finite}
 use Rattle.floats.specs.Ranges.{finite_to}
-use Rattle.slots.specs.Told.{Breaks, lowest, or_else, numbers_from, told, number_of}
-use Rattle.slots.specs.declared.Why.{Why}
-use Rattle.slots.specs.declared.Why.TheVariants.{Broken}
+use Rattle.std.proofs.Common.{Some}
+use Rattle.slots.specs.Told.{Breaks, Why, lowest, or_else, numbers_from, told, number_of}
 
 -- one of the k tests from s on holds
 unfoldable pub some : (ℕ → Bool) → ℕ → ℕ → Bool
@@ -24,7 +23,7 @@ module _ (breaks : Breaks) where
   number_of_lowest n (suc k) s rest = go (breaks n s) (number_of_lowest n k (suc s) rest)
     where
       go : (b : Bool) → number_of (or_else (lowest breaks n k (suc s)) rest) ≡ cond (some (breaks n) k (suc s)) n (number_of rest)
-          → number_of (or_else (cond b (Broken n s) (lowest breaks n k (suc s))) rest) ≡ cond (cond b true (some (breaks n) k (suc s))) n (number_of rest)
+          → number_of (or_else (cond b (Some (n, s)) (lowest breaks n k (suc s))) rest) ≡ cond (cond b true (some (breaks n) k (suc s))) n (number_of rest)
       go true later = refl
       go false later = later
 

@@ -1,13 +1,47 @@
 // Which slot of twenty parameters a refusal is about: the lowest number that a slot breaks, and the
-// lowest slot that breaks it. A crate with limits has its own `why`, which tries its slots; what they
-// all answer is defined over the test "slot s breaks limit n" (specs/Told.antt, `told`), and proved to
-// be what the first sentence says (proofs/Lowest.antt, `told-lowest` and `told-nothing`).
+// lowest slot that breaks it. A crate with limits has its own `why`, which tells by `lowest_broken` what its test
+// "this slot breaks this limit" gives; what is told is defined over the test (specs/Told.antt, `told`), and
+// proved to be what the first sentence says (proofs/Lowest.antt, `told-lowest` and `told-nothing`).
 
 #![tactic(auto)]
 
-// Nothing is broken, or this number by this slot.
-#[derive(Clone, Copy)]
-pub enum Why {
-    Nothing,
-    Broken(u8, u32),
+ghost use Rattle.std.specs.Prelude.{◌≡◌, ℕ, ◌<◌};
+ghost use Rattle.answers.specs.Outcome.{number};
+ghost use Rattle.slots.specs.Told.{Breaks, told_of, told};
+
+use answers::Refusal;
+
+// This refusal, by this slot.
+#[derive(Clone, Copy, Debug, PartialEq, Eq)]
+pub struct Broken {
+    pub refusal: Refusal,
+    pub slot: u32,
+}
+
+// The refusals that are about a slot, lowest number first.
+const ABOUT_SLOTS: [Refusal; 6] = [
+    Refusal::Value,
+    Refusal::Type,
+    Refusal::Mode,
+    Refusal::Band,
+    Refusal::Count,
+    Refusal::Aim,
+];
+
+// The lowest of these that a slot breaks by the test, and the lowest slot that breaks it.
+pub fn lowest_broken<F: Fn(Refusal, usize) -> bool>(breaks: F) -> Option<Broken>
+    requires { (r : _) (s : ℕ) → s < 20 → F.pre breaks r s }
+    ensures { (test : Breaks) → ((r : _) (s : ℕ) (x : _) → s < 20 → F.post breaks r s x → x ≡ test (number r) s) → told_of result ≡ told test }
+{
+    for refusal in ABOUT_SLOTS {
+        for slot in 0..20 {
+            if breaks(refusal, slot) {
+                return Some(Broken {
+                    refusal,
+                    slot: slot as u32,
+                });
+            }
+        }
+    }
+    None
 }

@@ -2,6 +2,8 @@
 // gives no contract can say; that a call ends is proved.
 #![tactic(auto)]
 
+pub mod filter;
+
 ghost use Rattle.std.specs.Prelude.{◌≤◌, IfOk, length};
 
 use std::io;
@@ -13,6 +15,7 @@ pub fn read_full<R: Read>(input: &mut R, buffer: &mut [u8]) -> io::Result<usize>
     ensures { IfOk result (λ n. n ≤ length buffer.new) }
 {
     let mut done = 0;
+    // A step is as long as what one read gives.
     while done < buffer.len() {
         let got = input.read(&mut buffer[done..])?;
         if got == 0 {

@@ -9,6 +9,7 @@ use lib.Dec.{eqb, leb, lit≤}
 use lib.Ieee.{Float, nan, inf, fin, le, add, sub, neg, of_bits, to_signed}
 use lib.Ieee.Scale.{finite}
 use borrow.Author.Tests.{eqb-true, le-leb}
+use Rattle.answers.specs.Outcome as outcomes
 use Rattle.answers.specs.Refusals.{RECORD}
 use Rattle.floats.specs.Ranges.{all_finite}
 use Rattle.floats.specs.Rounding.{nint_of}
@@ -17,11 +18,11 @@ use Rattle.model.specs.Types.{jant_of, type_ok}
 use Rattle.words.specs.Digits.{Below}
 use Rattle.station.specs.declared.Station.{Station}
 use Rattle.station.specs.Header.{type_bits, width_of, type_of, type_field, header_of, type_agrees, typeless}
-use Rattle.station.specs.Record.{header_in, floats_in, floats_of, edition_in, mode_in, type_in, is_of_edition, is_record, record_of, zeros}
+use Rattle.station.specs.Record.{header_in, floats_in, floats_of, edition_in, mode_in, type_in, is_of_edition, is_record, record_of}
 use Rattle.station.specs.Answers.{Answer, accepted, refused, read_of, write_of}
 use Rattle.station.proofs.Unpacking.{header_at}
 use Rattle.station.proofs.Editions.{record_length}
-use Rattle.station.proofs.RoundTrip.{Typed, never, accepted_write, accepted-read, form_edition, read-header}
+use Rattle.station.proofs.RoundTrip.{Typed, accepted_write, accepted-read, form_edition, read-header}
 
 -- a record has the edition that it was written in
 pub written_edition : (edition : ℕ) (s : Station) → Typed s → (out bytes : List ℕ) → write_of edition s out ≡ accepted bytes → edition_in bytes ≡ edition
@@ -34,7 +35,7 @@ pub one_edition : (e f : ℕ) (s t : Station) → Typed s → Typed t → (out r
 one_edition e f s t ts tt' out room bytes p q = sym (written_edition e s ts out bytes p) ∙ written_edition f t tt' room bytes q
 
 -- edition 1's first byte alone tells edition, mode and type
-pub first_byte : (bytes : List ℕ) → Below 256 bytes → (s : Station) → read_of bytes ≡ accepted s → edition_in bytes ≡ 1
+pub first_byte : (bytes : List ℕ) → Below 256 bytes → (s : Station) → read_of bytes ≡ outcomes.accepted s → edition_in bytes ≡ 1
     → get_or bytes 0 0 ≡ (4 + s.mode) * 16 + type_of s.mode (slot s.parm 1)
 unfolding header_of type_field type_bits width_of
 first_byte bytes below s e one =
@@ -52,7 +53,7 @@ not-finite-typeless (inf false) e = refl
 not-finite-typeless (fin s m k) e = absurd (false≢true (sym e))
 
 -- so no field of modes 0 to 2 agrees with it: the refusal is 1, not 2
-pub not-finite-type : (bytes : List ℕ) → edition_in bytes ≡ 1 → mode_in bytes ≤ 2 → finite (slot (floats_in 8 bytes) 1) ≡ false → read_of bytes ≡ refused RECORD (zeros 0)
+pub not-finite-type : (bytes : List ℕ) → edition_in bytes ≡ 1 → mode_in bytes ≤ 2 → finite (slot (floats_in 8 bytes) 1) ≡ false → read_of bytes ≡ outcomes.refused RECORD
 unfolding read_of is_record is_of_edition type_agrees width_of type_bits
 not-finite-type bytes one two e = rw (one, le-leb (mode_in bytes) 2 two, no_match (type_in 1 bytes) (jant_of (slot (floats_in 8 bytes) 1)) (not-finite-typeless (slot (floats_in 8 bytes) 1) e), and-false, and-false)
   where
@@ -75,4 +76,4 @@ lent-kept edition s out k left =
     (kept (not (all_finite (floats_of s))) _ k out left _
     (kept (typeless edition s.mode (slot s.parm 1)) _ k out left _
     (kept (not (leb s.mode 3)) _ k out left _
-    (kept (not (eqb (length out) 225)) _ k out left _ (λ (e : accepted (record_of edition s) ≡ refused k left). absurd (never (sym e)))))))
+    (kept (not (eqb (length out) 225)) _ k out left _ (λ (e : accepted (record_of edition s) ≡ refused k left). cc)))))

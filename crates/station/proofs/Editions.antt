@@ -50,8 +50,8 @@ module _ (b : List ℕ) (bytes : Below 256 b) (len : length b ≡ 225) where
   pub edition_at : edition_in b ≡ get_or b 0 0 / 64
   edition_at = omega (arith, header_at 4 (lit≤ tt) b bytes len)
 
-  pub mode-at : mode_in b ≡ get_or b 0 0 / 16 % 4
-  mode-at = ap (λ (n : ℕ). n % 4) (header_at 4 (lit≤ tt) b bytes len)
+  pub mode_at : mode_in b ≡ get_or b 0 0 / 16 % 4
+  mode_at = ap (λ (n : ℕ). n % 4) (header_at 4 (lit≤ tt) b bytes len)
 
   pub edition_0 : get_or b 0 0 / 64 ≡ 0 → is_record b ≡ eqb (get_or b 224 0 % 16) 0
   unfolding is_record is_of_edition width_of type_bits type_agrees
@@ -61,7 +61,7 @@ module _ (b : List ℕ) (bytes : Below 256 b) (len : length b ≡ 225) where
   pub edition_1 : get_or b 0 0 / 64 ≡ 1 → is_record b ≡ type_agrees 1 (get_or b 0 0 % 16) (get_or b 0 0 / 16 % 4) (slot (floats_in 8 b) 1)
   unfolding is_record is_of_edition width_of type_bits type_in
   edition_1 e =
-      rw (eq-eqb (length b) 225 len, edition_at ∙ e, mode-at, spare_at 8 (lit≤ tt) b bytes len, header_at 8 (lit≤ tt) b bytes len, mod-one, div-one)
+      rw (eq-eqb (length b) 225 len, edition_at ∙ e, mode_at, spare_at 8 (lit≤ tt) b bytes len, header_at 8 (lit≤ tt) b bytes len, mod-one, div-one)
 
   pub edition_above : 1 < get_or b 0 0 / 64 → is_record b ≡ false
   unfolding is_record

@@ -1,7 +1,7 @@
 -- A record is written word by word: four bytes at a time, with the h bits that are left carried to the next word. Assumes nothing.
 use mathlib.Core.Path.{◌≡◌, refl, sym, ap, ◌∙◌}
 use Prim.Native.Nat.{ℕ, suc, ◌+◌, ◌-◌, ◌*◌, ◌/◌, ◌%◌, ◌^◌, ◌≤◌, ◌<◌}
-use native.Mathlib.Nat.{add_comm, mul_comm, mul_assoc, add-mul, add-mul-div_right, add-mul-mod_self_right, div-add-mod', mod-lt, mul-div-mul_right, div-lt_iff_lt-mul, mul-div_cancel, mul-mod_left, add-zero}
+use native.Mathlib.Nat.{add_comm, mul_comm, mul_assoc, add-mul, add-mul-div_right, add-mul-mod_self_right, div-add-mod', mod-lt, mod-eq_of_lt, mul-div-mul_right, div-lt_iff_lt-mul, mul-div_cancel, mul-mod_left, add-zero}
 use native.Mathlib.Omega.{arith}
 use mathlib.Core.List.{List, [], ◌∷◌, ◌++◌}
 use lib.ListN.{length, take, set, get_or, drop_of_length-le}
@@ -104,9 +104,9 @@ after_take B n ws k d l = ap (after B n) (take-suc ws k d l) ∙ after_append B 
 pub written_carry : (h header : ℕ) (words out : List ℕ) (carry k : ℕ) → Written h header words out carry k → carry < 2 ^ h
 written_carry h header words out carry k r = rw r.left (mod-lt (after (2 ^ 32) header (take k words)) (pow_pos h))
 
-pub written_none : (h header : ℕ) (words out : List ℕ) → length out ≡ 225 → Written h header words out (header % 2 ^ h) 0
+pub written_none : (h header : ℕ) (words out : List ℕ) → length out ≡ 225 → header < 2 ^ h → Written h header words out header 0
 unfolding after digits
-written_none h header words out len = record { room = len; left = refl; bytes = refl }
+written_none h header words out len small = record { room = len; left = sym (mod-eq_of_lt small); bytes = refl }
 
 pub written-more : (h header : ℕ) (words out : List ℕ) (carry k w d : ℕ) → Written h header words out carry k
     → length words ≡ 56 → k < 56 → w ≡ get_or words k d → w < 2 ^ 32

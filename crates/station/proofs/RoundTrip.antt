@@ -12,6 +12,8 @@ use lib.Ieee.{Float, nan, binary32, of_bits, to_bits, fits}
 use lib.Ieee.Bits.{of_bits-to_bits, to_bits-of_bits, to_bits-lt}
 use lib.Ieee.Scale.{finite}
 use borrow.Author.Tests.{eq-eqb, le-leb, leb-true, not-false}
+use Rattle.answers.specs.Outcome as outcomes
+use Rattle.answers.proofs.Outcome as tests
 use Rattle.floats.specs.Ranges.{all_finite}
 use Rattle.floats.proofs.Tests.{both}
 use Rattle.model.specs.Limits.{slot}
@@ -53,16 +55,13 @@ patterns_back (more {x = w} {xs = ws} h r) e =
     ap (λ (y : ℕ). y ∷ map (to_bits binary32) (map (of_bits binary32) ws)) (to_bits-of_bits binary32 w h (finite-value (of_bits binary32 w) f.0))
     ∙ ap (λ (ys : List ℕ). w ∷ ys) (patterns_back r f.1)
 
-pub never : {A : Type 0} {n : ℕ} {x y : A} → refused n x ≡ accepted y → ⊥
-never p = let z : ◌≡◌ {A = ℕ} 0 1 = cc in omega arith
+-- a test that did not refuse
+passed : {A : Type 0} (refuses : Bool) (n : ℕ) (left : A) {x : A} {rest : Answer A} → cond refuses (refused n left) rest ≡ accepted x → (refuses ≡ false) × (rest ≡ accepted x)
+passed true n left e = cc
+passed false n left e = (refl, e)
 
 same_values : {A : Type 0} {x y : A} → accepted x ≡ accepted y → x ≡ y
 same_values p = cc
-
--- a test that did not refuse
-passed : {A : Type 0} (refuses : Bool) (n : ℕ) (left : A) {x : A} {rest : Answer A} → cond refuses (refused n left) rest ≡ accepted x → (refuses ≡ false) × (rest ≡ accepted x)
-passed true n left e = absurd (never e)
-passed false n left e = (refl, e)
 
 -- the stations that an edition has a form of
 pub record HasForm (edition : ℕ) (s : Station) : Type 0 where
@@ -88,14 +87,14 @@ form_written edition s out f room =
     rw (le-leb edition 1 f.known, f.floats, f.type, le-leb s.mode 3 f.mode, eq-eqb (length out) 225 room)
 
 -- what it means that the reader accepts
-pub accepted-read : (bytes : List ℕ) (s : Station) → read_of bytes ≡ accepted s
+pub accepted-read : (bytes : List ℕ) (s : Station) → read_of bytes ≡ outcomes.accepted s
     → let fs = floats_in (width_of (edition_in bytes)) bytes in
     (is_record bytes ≡ true) × (all_finite fs ≡ true) × (station_of (mode_in bytes) fs ≡ s)
 unfolding read_of floats_answer
 accepted-read bytes s e =
-    let one = passed (not (is_record bytes)) _ _ e in
-    let two = passed (not (all_finite (floats_in (width_of (edition_in bytes)) bytes))) _ _ one.1 in
-    (not-false _ one.0, not-false _ two.0, same_values two.1)
+    let one = tests.passed (not (is_record bytes)) _ _ e in
+    let two = tests.passed (not (all_finite (floats_in (width_of (edition_in bytes)) bytes))) _ _ one.1 in
+    (not-false _ one.0, not-false _ two.0, tests.same two.1)
 
 -- from a station to its record's fields
 module _ (edition : ℕ) (s : Station) (t : Typed s) (f : HasForm edition s) where
@@ -157,11 +156,11 @@ module _ (edition : ℕ) (s : Station) (t : Typed s) (f : HasForm edition s) whe
       rw (written-length, form_edition, le-leb edition 1 f.known, written_spare, written_type, written-mode, written-floats, written-slot)
       (own_agrees s.mode (slot s.parm 1) edition f.known f.type)
 
-  form_read : read_of (record_of edition s) ≡ accepted s
+  form_read : read_of (record_of edition s) ≡ outcomes.accepted s
   unfolding read_of floats_answer
   form_read =
       rw (written_record, form_edition, written-mode, written-floats, f.floats)
-      (ap accepted (station_of_lem s.parm s.gainmax s.gainmaxb t.parm t.gainmax s.mode))
+      (ap outcomes.accepted (station_of_lem s.parm s.gainmax s.gainmaxb t.parm t.gainmax s.mode))
 
 -- from a record's fields to its station, and back
 module _ (bytes : List ℕ) (below : Below 256 bytes) (r : is_record bytes ≡ true) (finite-floats : all_finite (floats_in (width_of (edition_in bytes)) bytes) ≡ true) where
@@ -205,13 +204,13 @@ module _ (bytes : List ℕ) (below : Below 256 bytes) (r : is_record bytes ≡ t
       ∙ packed_again (width_of edition) bytes below (record_length bytes r) (record_spare bytes r)
 
 -- what the writer writes in an edition, the reader reads as the same station
-pub read-written : (edition : ℕ) (s : Station) → Typed s → (out bytes : List ℕ) → write_of edition s out ≡ accepted bytes → read_of bytes ≡ accepted s
+pub read-written : (edition : ℕ) (s : Station) → Typed s → (out bytes : List ℕ) → write_of edition s out ≡ accepted bytes → read_of bytes ≡ outcomes.accepted s
 read-written edition s t out bytes e =
     let a = accepted_write edition s out bytes e in
     ap read_of (sym a.1) ∙ form_read edition s t a.0
 
 -- what the reader reads, the writer writes as the same bytes, told the record's own edition
-pub written_read : (bytes : List ℕ) → Below 256 bytes → (s : Station) (out : List ℕ) → length out ≡ 225 → read_of bytes ≡ accepted s → write_of (edition_in bytes) s out ≡ accepted bytes
+pub written_read : (bytes : List ℕ) → Below 256 bytes → (s : Station) (out : List ℕ) → length out ≡ 225 → read_of bytes ≡ outcomes.accepted s → write_of (edition_in bytes) s out ≡ accepted bytes
 written_read bytes below s out room e =
     let a = accepted-read bytes s e in
     ap (λ (x : Station). write_of (edition_in bytes) x out) (sym a.2)

@@ -8,6 +8,7 @@ use crate::Station;
 use floats::range;
 
 // A station of zeros.
+#[tactic(auto, unfolding(crate::specs::Record::zeros))]
 pub fn blank(mode: u8) -> Station
     ensures { result ≡ zeros mode }
 {
@@ -36,6 +37,7 @@ pub fn float_at(s: Station, k: usize) -> f32
 }
 
 // The station with x as float k.
+#[tactic(auto, using(crate::proofs::Arrays::with_parm, crate::proofs::Arrays::with_gainmax, crate::proofs::Arrays::with_gainmaxb))]
 pub fn with_float(s: Station, k: usize, x: f32) -> Station
     requires { k < 56 }
     ensures { result ≡ station_of s.mode (set (floats_of s) k x) }
@@ -55,6 +57,7 @@ pub fn with_float(s: Station, k: usize, x: f32) -> Station
     out
 }
 
+#[tactic(auto, using(crate::proofs::Finite::all_finite_append))]
 pub fn all_finite(s: Station) -> bool
     ensures { result ≡ all_finite (floats_of s) }
 {

@@ -5,6 +5,7 @@ ghost use Rattle.station.specs.Header.{width_of, type_of, header_of, type_agrees
 use model::types::{jant, type_ok};
 
 // How many bits it has.
+#[tactic(auto, unfolding(crate::specs::Header::width_of, crate::specs::Header::type_bits))]
 pub fn width_of(edition: u32) -> u32
     ensures { result ≡ width_of edition }
 {
@@ -12,6 +13,7 @@ pub fn width_of(edition: u32) -> u32
 }
 
 // A station's type, by its mode and slot 1.
+#[tactic(auto, unfolding(crate::specs::Header::type_of))]
 fn type_of(mode: u8, slot1: f32) -> u32
     ensures { result ≡ type_of mode slot1 }
 {
@@ -19,6 +21,7 @@ fn type_of(mode: u8, slot1: f32) -> u32
 }
 
 // Whether edition 1's field is the type of a station in this mode with this slot 1.
+#[tactic(auto, unfolding(crate::specs::Header::type_agrees))]
 pub fn type_agrees(field: u32, mode: u8, slot1: f32) -> bool
     ensures { result ≡ type_agrees 1 field mode slot1 }
 {
@@ -30,6 +33,7 @@ pub fn type_agrees(field: u32, mode: u8, slot1: f32) -> bool
 }
 
 // Whether the edition has no form of such a station.
+#[tactic(auto, unfolding(crate::specs::Header::typeless))]
 pub fn typeless(edition: u32, mode: u8, slot1: f32) -> bool
     ensures { result ≡ typeless edition mode slot1 }
 {

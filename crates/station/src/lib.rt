@@ -9,11 +9,13 @@ pub mod header;
 pub mod packed;
 
 ghost use Rattle.std.specs.Prelude.{◌≡◌, ◌≤◌, length, false};
+ghost use Rattle.answers.specs.Outcome.{outcome};
 ghost use Rattle.model.specs.Limits.{slot};
 ghost use Rattle.station.specs.Header.{typeless};
-ghost use Rattle.station.specs.Record.{is_record, floats_in, record_of, zeros};
-ghost use Rattle.station.specs.Answers.{answer, refused, floats_answer, read_of, write_of};
+ghost use Rattle.station.specs.Record.{is_record, floats_in, record_of};
+ghost use Rattle.station.specs.Answers.{answer, floats_answer, read_of, write_of};
 
+use answers::Refusal;
 use fields::{all_finite, blank, float_at, with_float};
 use header::{header_of, type_agrees, typeless, width_of};
 use numeric::bits::{bits_of, float_of};
@@ -29,32 +31,9 @@ pub struct Station {
     pub gainmaxb: [f32; 30],
 }
 
-// The answer: accepted, or the number of the refusal.
-#[derive(Clone, Copy)]
-pub enum Verdict {
-    Accepted,
-    Refused(u8),
-}
-
-// The reader's answer, with the station beside it: an enum can't hold arrays. A refusal's number
-// stands alone, so the station beside it is all zeros.
-#[derive(Clone, Copy)]
-pub struct Reading {
-    pub verdict: Verdict,
-    pub station: Station,
-}
-
-fn refuse(number: u8) -> Reading
-    ensures { answer result.verdict result.station ≡ refused number (zeros 0) }
-{
-    Reading {
-        verdict: Verdict::Refused(number),
-        station: blank(0),
-    }
-}
-
 // Whether these bytes have a record's length, an edition that there is, and what that edition asks:
 // edition 0 has no spare bit set, edition 1 a type that agrees.
+#[tactic(auto, using(crate::proofs::Editions::edition_0, crate::proofs::Editions::edition_1, crate::proofs::Editions::edition_above, crate::proofs::Unpacking::float_in, words::proofs::Digits::below_all), unfolding(crate::specs::Record::is_record))]
 fn is_record(bytes: &[u8]) -> bool
     ensures { result ≡ is_record bytes.now }
 {
@@ -62,46 +41,40 @@ fn is_record(bytes: &[u8]) -> bool
         return false;
     }
     let first = bytes[0];
-    if first / 64 == 0 {
-        return bytes[224] % 16 == 0;
+    match first / 64 {
+        0 => bytes[224] % 16 == 0,
+        1 => type_agrees(
+            (first % 16) as u32,
+            first / 16 % 4,
+            float_of(word_at(bytes, 1, 8)),
+        ),
+        _ => false,
     }
-    if first / 64 != 1 {
-        return false;
-    }
-    type_agrees(
-        (first % 16) as u32,
-        first / 16 % 4,
-        float_of(word_at(bytes, 1, 8)),
-    )
 }
 
-// The station of this mode and a record's floats, or refusal 2 at the first that isn't finite.
-fn read_floats(bytes: &[u8], mode: u8, header: u32) -> Reading
+// The station of this mode and a record's floats, or the refusal of the first that isn't finite.
+fn read_floats(bytes: &[u8], mode: u8, header: u32) -> Result<Station, Refusal>
     requires { (length bytes.now ≡ 225) × (header ≤ 8) }
-    ensures { answer result.verdict result.station ≡ floats_answer mode (floats_in header bytes.now) }
+    ensures { outcome result ≡ floats_answer mode (floats_in header bytes.now) }
 {
     let mut station = blank(mode);
-    let mut k: usize = 0;
-    while k < 56 {
+    for k in 0..56 {
         let x = float_of(word_at(bytes, k, header));
         if !is_finite(x) {
-            return refuse(answers::VALUE);
+            return Err(Refusal::Value);
         }
         station = with_float(station, k, x);
-        k += 1;
     }
-    Reading {
-        verdict: Verdict::Accepted,
-        station,
-    }
+    Ok(station)
 }
 
 // Reads a record of either edition.
-pub fn read(bytes: &[u8]) -> Reading
-    ensures { answer result.verdict result.station ≡ read_of bytes.now }
+#[tactic(auto, using(crate::proofs::Editions::record_length, crate::proofs::Editions::edition_at, crate::proofs::Editions::mode_at, crate::proofs::Headers::width_small, words::proofs::Digits::below_all), unfolding(crate::specs::Answers::read_of))]
+pub fn read(bytes: &[u8]) -> Result<Station, Refusal>
+    ensures { outcome result ≡ read_of bytes.now }
 {
     if !is_record(bytes) {
-        return refuse(answers::RECORD);
+        return Err(Refusal::Record);
     }
     let first = bytes[0];
     read_floats(bytes, first / 16 % 4, width_of((first / 64) as u32))
@@ -114,34 +87,33 @@ fn put_record(edition: u32, s: Station, out: &mut [u8])
 {
     let header = width_of(edition);
     let mut carry = header_of(edition, s.mode, s.parm[1]);
-    let mut k: usize = 0;
-    while k < 56 {
+    for k in 0..56 {
         let w = bits_of(float_at(s, k));
         carry = put_word(out, 4 * k, carry, w, header);
-        k += 1;
     }
     out[224] = last_byte(carry, header);
 }
 
 // Writes a station's record in this edition over the lent bytes; a refusal leaves them as they were.
-pub fn write(edition: u32, s: Station, out: &mut [u8]) -> Verdict
+#[tactic(auto, unfolding(crate::specs::Answers::write_of))]
+pub fn write(edition: u32, s: Station, out: &mut [u8]) -> Result<(), Refusal>
     ensures { answer result out.new ≡ write_of edition s out.old }
 {
     if 1 < edition {
-        return Verdict::Refused(answers::RECORD);
+        return Err(Refusal::Record);
     }
     if !all_finite(s) {
-        return Verdict::Refused(answers::VALUE);
+        return Err(Refusal::Value);
     }
     if typeless(edition, s.mode, s.parm[1]) {
-        return Verdict::Refused(answers::TYPE);
+        return Err(Refusal::Type);
     }
     if 3 < s.mode {
-        return Verdict::Refused(answers::MODE);
+        return Err(Refusal::Mode);
     }
     if out.len() != 225 {
-        return Verdict::Refused(answers::SPACE);
+        return Err(Refusal::Space);
     }
     put_record(edition, s, out);
-    Verdict::Accepted
+    Ok(())
 }

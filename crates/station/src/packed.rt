@@ -7,6 +7,7 @@ ghost use Rattle.station.specs.Record.{word_in, words_in};
 use words::big_endian;
 
 // The word in five bytes: the 32 bits after the header's.
+#[tactic(auto, unfolding(crate::specs::Record::word_in, words::specs::Digits::after))]
 fn word_of(a: u8, b: u8, c: u8, d: u8, e: u8, header: u32) -> u32
     requires { header ≤ 8 }
     ensures { result ≡ word_in header (a ∷ b ∷ c ∷ d ∷ e ∷ []) }
@@ -17,6 +18,7 @@ fn word_of(a: u8, b: u8, c: u8, d: u8, e: u8, header: u32) -> u32
 }
 
 // Word k of a record.
+#[tactic(auto, using(crate::proofs::Unpacking::word_at, words::proofs::Digits::below_all))]
 pub fn word_at(bytes: &[u8], k: usize, header: u32) -> u32
     requires { (length bytes.now ≡ 225) × (k < 56) × (header ≤ 8) }
     ensures { result ≡ get_or (words_in header bytes.now) k 0 }

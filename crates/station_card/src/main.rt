@@ -4,7 +4,7 @@
 // `card_back::card_of` says what the card is; no contract can say what is read or written. Where there
 // is no card standard output stays empty, and the refusal's number stands on standard error. The stored
 // run is a station of type 7.
-use card_back::{Back, card_of};
+use card_back::card_of;
 use standard_input::{read_full, skip_rest};
 use std::io;
 use std::io::Write;
@@ -16,9 +16,8 @@ fn main(rt: HostRuntime) -> io::Result<()> {
     let n = read_full(&mut standard_input, &mut input)?;
     skip_rest(&mut standard_input)?;
     let mut card = [0u8; 8192];
-    let answer = card_of(&input[..n], &mut card);
-    match answer {
-        Back::Refused(number) => eprintln!(rt; "refused {number}"),
-        Back::Written(end) => rt.stdout().write_all(&card[..end]),
+    match card_of(&input[..n], &mut card) {
+        Ok(end) => rt.stdout().write_all(&card[..end]),
+        Err(r) => eprintln!(rt; "refused {}", u8::from(r)),
     }
 }

@@ -1,17 +1,17 @@
 -- `hf_levels_record` and `hf_levels`: the last sixty-four field strengths, shown in three words. Definitions only.
-use Rattle.std.specs.Prelude.{ℕ, cond, not, List, [], ◌∷◌, length, eqb, Float}
+use Rattle.std.specs.Prelude.{ℕ, cond, not, List, [], ◌∷◌, length, eqb, Option, Some, None, Float}
 use Rattle.std.specs.Float.{binary32}
 use Rattle.std.specs.Float.Ieee.{to_bits}
-use Rattle.levels.specs.declared.Screen.{Screen}
-use Rattle.levels.specs.declared.Screen.TheVariants.{Nothing, Levels, Refused}
+use Rattle.answers.specs.Outcome.{Outcome, refused, accepted}
+use Rattle.levels.specs.declared.Levels.{Levels}
 use Rattle.levels.specs.Answers.{record_of, state_after, show_of}
 use Rattle.packed.specs.Lists.{Left, left}
 
 -- 0, with how many and the bits of the greatest and the least, all 0 with none; or the refusal's number, with the lent words as they were
-unfoldable pub screen_words : Screen → List ℕ → Left
-screen_words Nothing out = left 0 (0 ∷ 0 ∷ 0 ∷ [])
-screen_words (Levels held greatest least) out = left 0 (held ∷ to_bits binary32 greatest ∷ to_bits binary32 least ∷ [])
-screen_words (Refused n) out = left n out
+unfoldable pub screen_words : Outcome (Option Levels) → List ℕ → Left
+screen_words (accepted None) out = left 0 (0 ∷ 0 ∷ 0 ∷ [])
+screen_words (accepted (Some l)) out = left 0 (l.held ∷ to_bits binary32 l.greatest ∷ to_bits binary32 l.least ∷ [])
+screen_words (refused n) out = left n out
 
 -- what a record leaves in the state, and beside it
 pub data LevelsLeft : Type 0 where

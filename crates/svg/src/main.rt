@@ -4,17 +4,11 @@
 // no contract can say what is read or written. Where the input can't be read there is no text, and the
 // error on standard error. The stored run is examples/type-1.station with what is folded over shown
 // apart.
-use standard_input::{read_full, skip_rest};
+use standard_input::filter::filter;
 use std::io;
-use std::io::Write;
+use svg_text::output;
 
 fn main(rt: HostRuntime) -> io::Result<()> {
     // one byte more than an input has, so that a longer one is noticed
-    let mut input = [0u8; 476];
-    let mut standard_input = rt.stdin();
-    let n = read_full(&mut standard_input, &mut input)?;
-    skip_rest(&mut standard_input)?;
-    let mut text = [0u8; 131072];
-    let end = svg_text::output(&input[..n], &mut text);
-    rt.stdout().write_all(&text[..end])
+    filter::<_, _, _, 476, 131072>(&mut rt.stdin(), &mut rt.stdout(), output)
 }

@@ -6,7 +6,6 @@ use Rattle.captions.specs.declared.Heading as captions
 use Rattle.picture.specs.Picture.{picture_in, refusal_in}
 use Rattle.pair.specs.Pair.{pair_in}
 use Rattle.svg_text.specs.Drawn.{Drawn, drawn_of}
-use Rattle.svg_text.specs.declared.masts.Mast.{Mast}
 
 -- "elevation, MHz and the antenna's name in words"
 unfoldable pub caption_of : Heading → captions.Heading
@@ -34,8 +33,3 @@ both_in room (accepted a) second = beside_in room a second
 -- of two masts, into a buffer of room bytes: nothing where there are under 131,072
 unfoldable pub svg_two_in : ℕ → List ℕ → List ℕ → List ℕ
 svg_two_in room first second = cond (ltb room 131072) [] (both_in room (drawn_of first) (drawn_of second))
-
--- ---- the code's step: a mast that was read, with its heading
-
-abbrev pub drawn_mast : Mast → Heading → Drawn
-drawn_mast m h = record { numbers = m.numbers; kinds = m.kinds; heading = h }

@@ -8,16 +8,20 @@ mod masts;
 
 ghost use Rattle.std.specs.Prelude.{◌≡◌, ◌≤◌, length, take};
 ghost use Rattle.words.specs.Writing.{Wrote};
-ghost use Rattle.svg_text.specs.Svg.{caption_of, svg_in, drawn_mast, beside_in, svg_two_in};
-ghost use Rattle.svg_text.specs.Drawn.{drawn_of};
+ghost use Rattle.answers.specs.Outcome.{number};
+ghost use Rattle.picture.specs.Picture.{refusal_in};
+ghost use Rattle.svg_text.specs.Svg.{caption_of, svg_in, beside_in, svg_two_in};
+ghost use Rattle.svg_text.specs.Drawn.{drawn_of, drawn_mast};
 ghost use Rattle.svg_text.specs.Output.{plate_for, masts_for, output_in};
 
-use heading::{Answer, Heading};
+use answers::Refusal;
+use heading::Heading;
 use masts::{Mast, read_mast};
 use pair::pair;
 use picture::{picture, refusal_picture};
 
 // What stands above the plate.
+#[tactic(auto, unfolding(crate::specs::Svg::caption_of))]
 fn caption_for(h: Heading) -> captions::Heading
     ensures { result ≡ caption_of h }
 {
@@ -28,50 +32,50 @@ fn caption_for(h: Heading) -> captions::Heading
     }
 }
 
+// Writes the picture of a refusal, of which of two masts where there are two.
+fn refuse(mast: u8, refusal: Refusal, text: &mut [u8]) -> usize
+    ensures text { Wrote text.old 0 (refusal_in (length text.old) mast (number refusal)) text.new result }
+    ensures within { (result ≤ length text.new) × (result ≡ length (take result text.new)) }
+{
+    refusal_picture(mast, u8::from(refusal) as u32, text)
+}
+
 // Writes the picture of the plate that these bytes ask for from the buffer's start on, and returns its
 // length. `fold` shows apart what is folded over, where the mirror law holds. A buffer of under 65,536
 // bytes gets nothing.
+#[tactic(auto, unfolding(crate::specs::Svg::svg_in, crate::specs::Svg::pictured))]
 pub fn svg(input: &[u8], fold: bool, text: &mut [u8]) -> usize
     ensures text { Wrote text.old 0 (svg_in (length text.old) input.now fold) text.new result }
     // what a caller needs to lend the text on, as `&text[..r]`
     ensures within { (result ≤ length text.new) × (result ≡ length (take result text.new)) }
 {
-    let mast = read_mast(input);
-    let answer = mast.answer;
-    let numbers = mast.numbers;
-    let kinds = mast.kinds;
-    match answer {
-        Answer::Refused(n) => refusal_picture(0, n as u32, text),
-        Answer::Told(h) => {
-            let folded = fold & h.mirrored;
-            let caption = caption_for(h);
-            picture(&numbers, &kinds, folded, caption, text)
+    match read_mast(input) {
+        Err(r) => refuse(0, r, text),
+        Ok(m) => {
+            let folded = fold & m.heading.mirrored;
+            let caption = caption_for(m.heading);
+            picture(&m.row.numbers, &m.row.kinds, folded, caption, text)
         }
     }
 }
 
 // The first mast, which was read, with the second.
-fn svg_beside(first: Mast, h: Heading, second: &[u8], text: &mut [u8]) -> usize
-    ensures text { Wrote text.old 0 (beside_in (length text.old) (drawn_mast first h) (drawn_of second.now)) text.new result }
+#[tactic(auto, unfolding(crate::specs::Svg::beside_in))]
+fn svg_beside(first: Mast, second: &[u8], text: &mut [u8]) -> usize
+    ensures text { Wrote text.old 0 (beside_in (length text.old) (drawn_mast first) (drawn_of second.now)) text.new result }
     ensures within { (result ≤ length text.new) × (result ≡ length (take result text.new)) }
 {
-    let mast = read_mast(second);
-    let answer = mast.answer;
-    let numbers = mast.numbers;
-    let kinds = mast.kinds;
-    let first_numbers = first.numbers;
-    let first_kinds = first.kinds;
-    match answer {
-        Answer::Refused(n) => refusal_picture(2, n as u32, text),
-        Answer::Told(i) => {
-            let above = caption_for(h);
-            let below = caption_for(i);
+    match read_mast(second) {
+        Err(r) => refuse(2, r, text),
+        Ok(m) => {
+            let above = caption_for(first.heading);
+            let below = caption_for(m.heading);
             pair(
-                &first_numbers,
-                &first_kinds,
+                &first.row.numbers,
+                &first.row.kinds,
                 above,
-                &numbers,
-                &kinds,
+                &m.row.numbers,
+                &m.row.kinds,
                 below,
                 text,
             )
@@ -81,6 +85,7 @@ fn svg_beside(first: Mast, h: Heading, second: &[u8], text: &mut [u8]) -> usize
 
 // Writes the picture of both masts on one plate from the buffer's start on, and returns its length; the
 // first that refuses is told by its name, A or B. A buffer of under 131,072 bytes gets nothing.
+#[tactic(auto, using(words::proofs::Writing::wrote_none), unfolding(crate::specs::Svg::svg_two_in, crate::specs::Svg::both_in))]
 pub fn svg_two(first: &[u8], second: &[u8], text: &mut [u8]) -> usize
     ensures text { Wrote text.old 0 (svg_two_in (length text.old) first.now second.now) text.new result }
     ensures within { (result ≤ length text.new) × (result ≡ length (take result text.new)) }
@@ -88,34 +93,34 @@ pub fn svg_two(first: &[u8], second: &[u8], text: &mut [u8]) -> usize
     if text.len() < 131072 {
         return 0;
     }
-    let mast = read_mast(first);
-    let answer = mast.answer;
-    match answer {
-        Answer::Refused(n) => refusal_picture(1, n as u32, text),
-        Answer::Told(h) => svg_beside(mast, h, second, text),
+    match read_mast(first) {
+        Err(r) => refuse(1, r, text),
+        Ok(m) => svg_beside(m, second, text),
     }
 }
 
 // A byte and a station.
+#[tactic(auto, unfolding(crate::specs::Output::plate_for))]
 fn asked_plate(input: &[u8], text: &mut [u8]) -> usize
     requires { length input.now ≡ 238 }
     ensures text { Wrote text.old 0 (plate_for (length text.old) input.now) text.new result }
     ensures within { (result ≤ length text.new) × (result ≡ length (take result text.new)) }
 {
     if 1 < input[0] {
-        return refusal_picture(0, 1, text);
+        return refuse(0, Refusal::Record, text);
     }
     svg(&input[1..238], input[0] == 1, text)
 }
 
 // A byte and two stations.
+#[tactic(auto, unfolding(crate::specs::Output::masts_for))]
 fn asked_masts(input: &[u8], text: &mut [u8]) -> usize
     requires { length input.now ≡ 475 }
     ensures text { Wrote text.old 0 (masts_for (length text.old) input.now) text.new result }
     ensures within { (result ≤ length text.new) × (result ≡ length (take result text.new)) }
 {
     if input[0] != 2 {
-        return refusal_picture(0, 1, text);
+        return refuse(0, Refusal::Record, text);
     }
     svg_two(&input[1..238], &input[238..475], text)
 }
@@ -123,6 +128,7 @@ fn asked_masts(input: &[u8], text: &mut [u8]) -> usize
 // Writes the program's output for this input from the buffer's start on, and returns its length. The
 // first byte says what is asked: 0 a plate, 1 a plate with what is folded over shown apart, 2 two
 // masts; then a station of 237 bytes, for 2 two of them. A buffer of under 131,072 bytes gets nothing.
+#[tactic(auto, using(words::proofs::Writing::wrote_none), unfolding(crate::specs::Output::output_in))]
 pub fn output(input: &[u8], text: &mut [u8]) -> usize
     ensures text { Wrote text.old 0 (output_in (length text.old) input.now) text.new result }
     ensures within { (result ≤ length text.new) × (result ≡ length (take result text.new)) }
@@ -130,11 +136,9 @@ pub fn output(input: &[u8], text: &mut [u8]) -> usize
     if text.len() < 131072 {
         return 0;
     }
-    if input.len() == 238 {
-        return asked_plate(input, text);
+    match input.len() {
+        238 => asked_plate(input, text),
+        475 => asked_masts(input, text),
+        _ => refuse(0, Refusal::Record, text),
     }
-    if input.len() == 475 {
-        return asked_masts(input, text);
-    }
-    refusal_picture(0, 1, text)
 }

@@ -3,7 +3,7 @@ ghost use Rattle.std.specs.Prelude.{◌+◌, ◌≤◌, length};
 ghost use Rattle.labels.specs.Writing.{Put};
 ghost use Rattle.table.specs.Legend.{legend_text, dashed_text};
 
-use captions::push_name;
+use captions::{push_name, push_where};
 use words::bytes::push_bytes;
 
 // Inner step: the masts' sample strokes and names.
@@ -24,16 +24,15 @@ pub fn push_legend(out: &mut [u8], at: usize, first: u32, second: u32) -> usize
 }
 
 // Inner step: what dashes mean, where there are any.
+#[tactic(auto, using(labels::proofs::Put::more), unfolding(crate::specs::Legend::dashed_text, quoted::specs::Quoted::quoted))]
 pub fn push_dashed(out: &mut [u8], at: usize, floors: bool) -> usize
     requires { at + 70 ≤ length out.old }
     ensures { Put 70 out.old at (dashed_text floors) out.new result }
 {
-    if floors {
-        return push_bytes(
-            out,
-            at,
-            b"<text x='8850' y='7370' text-anchor='end'>dashed: floor</text>\n",
-        );
-    }
-    at
+    push_where(
+        out,
+        at,
+        floors,
+        b"<text x='8850' y='7370' text-anchor='end'>dashed: floor</text>\n",
+    )
 }

@@ -10,14 +10,15 @@ use lib.Ieee.{Float, binary32, to_bits}
 use Rattle.words.specs.Numbers.{decimal, hexadecimal}
 use Rattle.words.proofs.Numbers.{decimal-length, hexadecimal-length}
 use Rattle.answers.specs.Outcome.{Outcome, refused, accepted}
-use Rattle.antenna.specs.Gain.{Kind, level, floor, silence}
+use Rattle.answers.specs.declared.Kind.{Kind}
+use Rattle.answers.specs.declared.Kind.TheVariants.{Level, Floor, Silence}
 use Rattle.text.specs.Lines.{kind_name, line, refusal_line, printed, gain_line, lines_to}
 
-kind-length : (k : Kind) → length (kind_name k) ≤ 7
+pub kind_length : (k : Kind) → length (kind_name k) ≤ 7
 unfolding kind_name
-kind-length level = lit≤ tt
-kind-length floor = lit≤ tt
-kind-length silence = lit≤ tt
+kind_length Level = lit≤ tt
+kind_length Floor = lit≤ tt
+kind_length Silence = lit≤ tt
 
 line-length : (n : ℕ) (x : Float) (kind : List ℕ) → length kind ≤ 7 → length (line n x kind) ≤ 21
 unfolding line
@@ -42,7 +43,7 @@ printed-length (accepted x) text n h f = f x
 
 pub gain-line-length : (v : ℕ) (o : Outcome (Kind × Float)) → length (gain_line v o) ≤ 21
 unfolding gain_line
-gain-line-length v o = printed-length o _ 21 (lit≤ tt) λ g. line-length v g.1 (kind_name g.0) (kind-length g.0)
+gain-line-length v o = printed-length o _ 21 (lit≤ tt) λ g. line-length v g.1 (kind_name g.0) (kind_length g.0)
 
 pub lines-length : (answers : ℕ → Outcome (Kind × Float)) (n : ℕ) → length (lines_to answers n) ≤ 21 * n
 unfolding lines_to

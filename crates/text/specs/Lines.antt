@@ -4,13 +4,14 @@ use Rattle.std.specs.Float.{binary32}
 use Rattle.std.specs.Float.Ieee.{to_bits}
 use Rattle.words.specs.Numbers.{decimal, hexadecimal}
 use Rattle.answers.specs.Outcome.{Outcome, refused, accepted}
-use Rattle.antenna.specs.Gain.{Kind, level, floor, silence}
+use Rattle.answers.specs.declared.Kind.{Kind}
+use Rattle.answers.specs.declared.Kind.TheVariants.{Level, Floor, Silence}
 
 -- `level`, `floor`, `silence`
 unfoldable pub kind_name : Kind → List ℕ
-kind_name level = 108 ∷ 101 ∷ 118 ∷ 101 ∷ 108 ∷ []
-kind_name floor = 102 ∷ 108 ∷ 111 ∷ 111 ∷ 114 ∷ []
-kind_name silence = 115 ∷ 105 ∷ 108 ∷ 101 ∷ 110 ∷ 99 ∷ 101 ∷ []
+kind_name Level = 108 ∷ 101 ∷ 118 ∷ 101 ∷ 108 ∷ []
+kind_name Floor = 102 ∷ 108 ∷ 111 ∷ 111 ∷ 114 ∷ []
+kind_name Silence = 115 ∷ 105 ∷ 108 ∷ 101 ∷ 110 ∷ 99 ∷ 101 ∷ []
 
 -- azimuth, space, the digits of the number's bits, space, the kind's name
 unfoldable pub line : ℕ → Float → List ℕ → List ℕ

@@ -13,6 +13,7 @@ const P1: f32 = 3.1415927;
 const Q1: f32 = P1 / 180.0;
 
 // Inner step of set-up. The source's ends stay: 90.05 and 90.105 degrees for 90, and 0.005 radians for 0.
+#[tactic(auto, unfolding(floats::specs::Filled::filled_to, crate::specs::Trig::trig_tables))]
 pub fn trigfun() -> Trig
     ensures { result ≡ trig_tables }
 {

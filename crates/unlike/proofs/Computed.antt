@@ -35,7 +35,8 @@ use Rattle.answers.specs.Outcome.{accepted}
 use Rattle.answers.specs.Refusals.{SPACE, TABLE}
 use Rattle.antenna.specs.TableSum.{table_sum, own_table}
 use Rattle.antenna.specs.Asked.{asked_refusal}
-use Rattle.antenna.specs.Gain.{level, floored, ratio_level, decibels_of, kind_of, graded, number_at, gain_asked, gain_of}
+use Rattle.answers.specs.declared.Kind.TheVariants.{Level}
+use Rattle.antenna.specs.Gain.{floored, ratio_level, decibels_of, kind_of, graded, number_at, gain_asked, gain_of}
 use Rattle.parameters.specs.Limits.{design_ok, band_ok, slots_ok, start_of, start_ok, slew_ok, aim_ok, refusal_of}
 use Rattle.search.specs.Search.{untold, tallied, read_over, azimuths_from, elevations_after, plateau_centre, azmax_read, turns_in, azmax_directions, azmax_of, sweep_read, sweep_directions, sweep_of, plane_elevation, plane_of, plane_searched, aim_of, elevation_read, elevation_directions, elevations_of, raised_of, wrapped, refined_of, unrefined, last_searched, gainorm_of}
 use Rattle.antenna.specs.SetUp.{no_elements, elements_of, slewed_of, model_of, search_refused, accepted_of, set_up_of}
@@ -70,7 +71,7 @@ abbrev pub Answers : List Float → Peak → ℕ → ℕ → Float → Type 0
 Answers p peak u w x =
     let m = model_of (jant_of (slot p 1)) p in
     ((n : ℕ) (own : Bool) → asked_refusal m n (gain_asked own (count u) (count w) +0) ≡ cond (ltb n table_size || false) SPACE (cond (not own) TABLE 0))
-    × ((t : List Float) → graded peak.z6 (number_at m peak.z6 t (count u) (count w) +0) ≡ accepted (level, x))
+    × ((t : List Float) → graded peak.z6 (number_at m peak.z6 t (count u) (count w) +0) ≡ accepted (Level, x))
 
 -- what is computed of a station: it meets the limits, its search finds this peak in so many readings, and its two answers
 pub record Computed (p : List Float) (peak : Peak) (readings u v : ℕ) (here there : Float) : Type 0 where
@@ -88,7 +89,7 @@ module _ {p : List Float} {peak : Peak} {readings u v : ℕ} {here there : Float
       let found = sym (search_is p) ∙ c.search in
       accepted_when p n (record { limits = rw (c.limits n, le-ltb n table_size h); search = rw found c.found }) ∙ rw found
 
-  answer : (w : ℕ) (x : Float) → Answers p peak u w x → (t : List Float) → table_size ≤ length t → table_sum t ≡ (antenna_of p peak).sum → gain_of (antenna_of p peak) t (count u) (count w) +0 ≡ accepted (level, x)
+  answer : (w : ℕ) (x : Float) → Answers p peak u w x → (t : List Float) → table_size ≤ length t → table_sum t ≡ (antenna_of p peak).sum → gain_of (antenna_of p peak) t (count u) (count w) +0 ≡ accepted (Level, x)
   unfolding gain_of
   answer w x a t h e = rw (a.0 (length t) (own_table (antenna_of p peak) t), le-ltb (length t) table_size h, eq-eqb (table_sum t) (antenna_of p peak).sum e) (a.1 t)
 

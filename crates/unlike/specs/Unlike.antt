@@ -5,7 +5,8 @@ use Rattle.model.specs.Table.{table_size}
 use Rattle.answers.specs.Outcome.{accepted}
 use Rattle.antenna.specs.TableSum.{table_sum}
 use Rattle.antenna.specs.SetUp.{set_up_of}
-use Rattle.antenna.specs.Gain.{level, gain_of}
+use Rattle.answers.specs.declared.Kind.TheVariants.{Level}
+use Rattle.antenna.specs.Gain.{gain_of}
 use Rattle.antenna.specs.declared.record.Antenna.{Antenna}
 
 -- the parameters p are accepted, and with a maximum gain of 0 the answers at elevation u are one level at azimuth v and another at 360 - v,
@@ -14,6 +15,6 @@ pub record Unlike (p : List Float) (u v : ℕ) (here there : Float) : Type 0 whe
   pub antenna : Antenna
   pub readings : ℕ
   pub set_up_lem : (n : ℕ) → table_size ≤ n → set_up_of p n ≡ accepted (antenna, readings)
-  pub at_v : (t : List Float) → table_size ≤ length t → table_sum t ≡ antenna.sum → gain_of antenna t (count u) (count v) +0 ≡ accepted (level, here)
-  pub at-mirror : (t : List Float) → table_size ≤ length t → table_sum t ≡ antenna.sum → gain_of antenna t (count u) (count (360 - v)) +0 ≡ accepted (level, there)
+  pub at_v : (t : List Float) → table_size ≤ length t → table_sum t ≡ antenna.sum → gain_of antenna t (count u) (count v) +0 ≡ accepted (Level, here)
+  pub at-mirror : (t : List Float) → table_size ≤ length t → table_sum t ≡ antenna.sum → gain_of antenna t (count u) (count (360 - v)) +0 ≡ accepted (Level, there)
   pub differ : here ≡ there → ⊥

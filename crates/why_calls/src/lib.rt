@@ -5,38 +5,42 @@
 // `curtain_why` say of them (specs/Why.antt): 0 for nothing, or kind 4 with the refusal's number and
 // slot.
 ghost use Rattle.std.specs.Prelude.{◌≡◌};
+ghost use Rattle.slots.specs.Told.{told_of};
 ghost use Rattle.why_calls.specs.Why.{packed, why_call, curtain_why_call};
 
-use packed::arrays::parm_at;
-use packed::{REFUSED, REFUSED_AT};
-use slots::Why;
+use answers::Refusal;
+use packed::{REFUSED_AT, refused};
+use slots::Broken;
 
 // 0 for nothing, or kind 4 with a refusal's number and slot.
-fn pack(w: Why) -> u64
-    ensures { result ≡ packed w }
+#[tactic(auto, unfolding(crate::specs::Why::packed))]
+fn pack(w: Option<Broken>) -> u64
+    ensures { result ≡ packed (told_of w) }
 {
     match w {
-        Why::Nothing => 0,
-        Why::Broken(number, slot) => REFUSED_AT + (number as u64 * 65536 + slot as u64),
+        None => 0,
+        Some(b) => REFUSED_AT + (u8::from(b.refusal) as u64 * 65536 + b.slot as u64),
     }
 }
 
 // `set_up_why::why::why` of twenty parameters; 8 first for parameters of another number.
+#[tactic(auto, unfolding(crate::specs::Why::why_call))]
 pub fn why(parm: &[f32]) -> u64
     ensures { result ≡ why_call parm.now }
 {
-    if parm.len() != 20 {
-        return REFUSED + answers::SPACE as u64;
+    match <[f32; 20]>::try_from(parm) {
+        Ok(p) => pack(set_up_why::why::why(p)),
+        Err(_) => refused(Refusal::Space),
     }
-    pack(set_up_why::why::why(parm_at(parm, 0)))
 }
 
 // `curtain_why::why::why` of twenty parameters; 8 first for parameters of another number.
+#[tactic(auto, unfolding(crate::specs::Why::curtain_why_call))]
 pub fn curtain_why(parm: &[f32]) -> u64
     ensures { result ≡ curtain_why_call parm.now }
 {
-    if parm.len() != 20 {
-        return REFUSED + answers::SPACE as u64;
+    match <[f32; 20]>::try_from(parm) {
+        Ok(p) => pack(curtain_why::why::why(p)),
+        Err(_) => refused(Refusal::Space),
     }
-    pack(curtain_why::why::why(parm_at(parm, 0)))
 }

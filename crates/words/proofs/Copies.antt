@@ -1,12 +1,12 @@
 -- Loops that copy a list, element by element: what stands there after i turns, after one more, and after all. Assumes nothing.
 use mathlib.Core.Path.{◌≡◌, sym, ap, ◌∙◌}
 use mathlib.Core.List.{List, ◌++◌, append-nil, map}
-use Prim.Native.Nat.{ℕ, ◌+◌, ◌≤◌, ◌<◌}
+use Prim.Native.Nat.{ℕ, ◌+◌, ◌<◌}
 use native.Mathlib.Nat.{zero-add}
 use native.Mathlib.Numerals.{add-one}
 use native.Mathlib.Omega.{arith}
 use lib.ListN.{length, drop, set, get_or, length-drop, length-map, get_or-map, drop_of_length-le}
-use lib.Seq.{paste, paste-zero, paste-suc, length-paste, get_or-drop}
+use lib.Seq.{paste, paste-zero, paste-suc, get_or-drop}
 use Rattle.words.specs.Patterns.{part}
 use Rattle.words.specs.Laid.{laid}
 use Rattle.words.proofs.Laid.{laid_pasted}
@@ -34,9 +34,6 @@ module _ {A : Type 0} (out l : List A) (at : ℕ) where
 module _ {A : Type 0} (word : A → ℕ) (out : List ℕ) (at : ℕ) (xs : List A) where
   abbrev pub written : ℕ → List ℕ
   written i = paste out at (map word xs) i
-
-  pub written-length : (i : ℕ) → at + i ≤ length out → i ≤ length xs → length (written i) ≡ length out
-  written-length i ho hx = length-paste out at (map word xs) i ho (omega (arith, length-map xs word))
 
   pub written-more : (i : ℕ) (d : A) → at + i < length out → i < length xs → set (written i) (at + i) (word (get_or xs i d)) ≡ written (i + 1)
   written-more i d ho hx =

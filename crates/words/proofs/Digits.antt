@@ -7,6 +7,8 @@ use mathlib.Core.List.{List, [], ◌∷◌, ◌++◌, append_assoc, append-nil}
 use lib.ListN.{length, drop, get_or, length-append}
 use lib.Arith.{digits_div, digits_mod, digits_lt}
 use lib.Seq.{get_or_at}
+use native.Mathlib.Omega.{arith}
+use Rattle.std.specs.Int.{w32, to_be_bytes}
 use Rattle.words.specs.Digits.{after, digits, Below, none, more}
 
 pub after_append : (B n : ℕ) (xs ys : List ℕ) → after B n (xs ++ ys) ≡ after B (after B n xs) ys
@@ -116,3 +118,11 @@ read-digits B k {xs} r e n =
 
 pub write_digits : (B k n : ℕ) → n < B ^ k → after B 0 (digits B k n) ≡ n
 write_digits B k n h = ap (λ (q : ℕ). after B q (digits B k n)) (sym (div-eq_of_lt h)) ∙ after-digits B k n
+
+-- four bytes, as the code gets them
+pub be_bytes : (n : ℕ) → to_be_bytes w32 n ≡ digits 256 4 n
+unfolding digits
+be_bytes n =
+    let a : n / 16777216 % 256 ≡ n / 256 / 256 / 256 % 256 = omega arith in
+    let b : n / 65536 % 256 ≡ n / 256 / 256 % 256 = omega arith in
+    cc (a, b)

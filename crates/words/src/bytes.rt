@@ -2,6 +2,7 @@
 ghost use Rattle.std.specs.Prelude.{[], ◌∷◌, ◌+◌, ◌≤◌, ◌<◌, length};
 ghost use Rattle.words.specs.Writing.{Wrote};
 
+#[tactic(auto, using(crate::proofs::Laid::laid_one))]
 pub fn push(out: &mut [u8], at: usize, b: u8) -> usize
     requires { at < length out.old }
     ensures { Wrote out.old at (b ∷ []) out.new result }
@@ -10,14 +11,12 @@ pub fn push(out: &mut [u8], at: usize, b: u8) -> usize
     at + 1
 }
 
+#[tactic(auto, unfolding(crate::specs::Laid::laid))]
 pub fn push_bytes(out: &mut [u8], at: usize, s: &[u8]) -> usize
     requires { at + length s.now ≤ length out.old }
     ensures { Wrote out.old at s.now out.new result }
 {
-    let mut i: usize = 0;
-    while i < s.len() {
-        out[at + i] = s[i];
-        i += 1;
-    }
-    at + i
+    let end = at + s.len();
+    out[at..end].copy_from_slice(s);
+    end
 }

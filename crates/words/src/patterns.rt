@@ -10,10 +10,8 @@ pub fn put_bits(out: &mut [u32], at: usize, xs: &[f32])
     requires { at + length xs.now ≤ length out.old }
     ensures { out.new ≡ laid out.old at (bits xs.now) }
 {
-    let mut i: usize = 0;
-    while i < xs.len() {
-        out[at + i] = bits_of(xs[i]);
-        i += 1;
+    for (i, x) in xs.iter().enumerate() {
+        out[at + i] = bits_of(*x);
     }
 }
 
@@ -22,10 +20,8 @@ pub fn read_bits(words: &[u32], at: usize, out: &mut [f32])
     requires { at + length out.old ≤ length words.now }
     ensures { out.new ≡ part (floats words.now) at (length out.old) }
 {
-    let mut i: usize = 0;
-    while i < out.len() {
+    for i in 0..out.len() {
         out[i] = float_of(words[at + i]);
-        i += 1;
     }
 }
 
@@ -34,9 +30,6 @@ pub fn copy_part(s: &[f32], at: usize, out: &mut [f32])
     requires { at + length out.old ≤ length s.now }
     ensures { out.new ≡ part s.now at (length out.old) }
 {
-    let mut i: usize = 0;
-    while i < out.len() {
-        out[i] = s[at + i];
-        i += 1;
-    }
+    let n = out.len();
+    out.copy_from_slice(&s[at..at + n]);
 }

@@ -1,9 +1,9 @@
--- What accepted parameters say of the model that is made from them, and set-up's outcome from its steps.
-use Rattle.std.proofs.Common.{◌≡◌, ℕ, ◌<◌, ◌≤◌, Bool, true, false, cond, not, ◌&&◌, eqb, ltb, leb, List, length, refl, arith, ltb-false, le-ltb, lt-ltb, ne_eqb, le-leb, leb-true}
+-- What accepted parameters say of the model that is made from them, and what set-up leaves of the lent floats.
+use Rattle.std.proofs.Common.{◌≡◌, ℕ, ◌≤◌, Bool, true, false, cond, not, ◌&&◌, eqb, ltb, leb, List, length, refl, arith, ltb-false, ne_eqb, le-leb, leb-true}
 use borrow.Author.Tests.{not-false}
 use lib.Ieee.{Float, le, of_bits}
-use Rattle.model.specs.Types.{jant_of, type_ok, array_type, log_periodic}
-use Rattle.model.specs.Counts.{count_ok, counts_ok}
+use Rattle.model.specs.Types.{type_ok, array_type, log_periodic}
+use Rattle.model.specs.Counts.{count_ok, counts_ok, elements_ok}
 use Rattle.floats.specs.Ranges.{all_finite}
 use Rattle.model.specs.Table.{table_size}
 use Rattle.model.specs.declared.record.Constants.{Constants}
@@ -12,14 +12,11 @@ use Rattle.floats.proofs.Tests.{both, next}
 use Rattle.ground.specs.Table.{table_of}
 use Rattle.logperiodic.specs.Active.{Listed}
 use Rattle.logperiodic.specs.declared.geometry.Boom.{Boom}
-use Rattle.answers.specs.Outcome.{refused}
-use Rattle.answers.specs.Refusals.{PATTERN}
-use Rattle.words.specs.Laid.{laid}
-use Rattle.model.specs.Limits.{slot}
-use Rattle.parameters.specs.Limits.{band_ok, nel_of, slots_ok, aim_ok, start_of, refusal_of}
+use Rattle.parameters.specs.Limits.{band_ok, nel_of, slots_ok, aim_ok, refusal_of}
 use Rattle.parameters.specs.TypeConstants.{number, given, constants_with, array_own, boom_own, rhombic_own, crossed_own, own_of, constants_of}
-use Rattle.search.specs.Search.{gainorm_of}
-use Rattle.antenna.specs.SetUp.{model_of, search_refused, accepted_of, found, searched, set_up_of, no_antenna, beside_of, kept_after, lent_after}
+use Rattle.answers.specs.Outcome.{refused}
+use Rattle.words.specs.Laid.{laid}
+use Rattle.antenna.specs.SetUp.{no_elements, accepted_of, set_up_of, kept_after, lent_after}
 use Rattle.search.specs.declared.gainorm.Search.{Search}
 
 -- the two counts of the constants
@@ -69,36 +66,17 @@ pub counts_made : (m : Model) → Listed m.elements.iek m.elements.nat → Count
 unfolding counts_ok
 counts_made m l k = simp (le-leb m.elements.nat 30 l.few, l.named, k)
 
+-- no elements are a list of none
+pub none_listed : Listed no_elements.elements.iek no_elements.elements.nat
+unfolding no_elements elements_ok
+none_listed = record { few = omega arith; named = refl }
+
 -- the lent floats after a refusal, and after an acceptance
 pub refused-lent : (p lent : List Float) (n : ℕ) → set_up_of p (length lent) ≡ refused n → lent ≡ lent_after p lent
 unfolding lent_after kept_after
 refused-lent p lent n h = rw h
 
--- the antenna beside it
-pub beside_refusal : (p lent : List Float) (n : ℕ) → set_up_of p (length lent) ≡ refused n → no_antenna ≡ beside_of (set_up_of p (length lent))
-unfolding beside_of
-beside_refusal p lent n h = rw h
-
 pub accepted-lent : (p lent t : List Float) (m : Model) (s : Search) → t ≡ table_of m → set_up_of p (length lent) ≡ accepted_of m s
     → laid lent 0 t ≡ lent_after p lent
 unfolding lent_after kept_after accepted_of
 accepted-lent p lent t m s e h = rw (h, e)
-
--- set-up's outcome, from what its steps gave
-module _ (p : List Float) (lent n iant : ℕ) (k : iant ≡ jant_of (slot p 1)) (r : n ≡ refusal_of iant p lent) where
-  pub set-up-refused : 0 < n → set_up_of p lent ≡ refused n
-  unfolding set_up_of
-  set-up-refused h = simp (← k, ← r, lt-ltb 0 n h)
-
-  pub set-up-found : (m : Model) (s : Search) → n ≤ 0 → m ≡ model_of iant p → s ≡ gainorm_of m (table_of m) (start_of iant p)
-      → set_up_of p lent ≡ found m s
-  unfolding set_up_of searched
-  set-up-found m s h em es = simp (← k, ← r, le-ltb 0 n h, ← em, ← es)
-
-pub found-refused : (m : Model) (s : Search) (b : Bool) → b ≡ search_refused s → b ≡ true → found m s ≡ refused PATTERN
-unfolding found
-found-refused m s b e h = simp (← e, h)
-
-pub found-accepted : (m : Model) (s : Search) (b : Bool) → b ≡ search_refused s → b ≡ false → found m s ≡ accepted_of m s
-unfolding found
-found-accepted m s b e h = simp (← e, h)

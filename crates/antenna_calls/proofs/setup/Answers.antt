@@ -1,71 +1,41 @@
--- `setup`, by set-up's answer.
-use mathlib.Core.Path.{◌≡◌, sym, ap, ◌∙◌}
+-- `setup`, where set-up refuses and where it accepts.
+use mathlib.Core.Path.{◌≡◌, refl, sym, ap, ◌∙◌}
+use mathlib.Core.Bool.{Bool, true, false, not, ◌||◌, false≢true}
 use mathlib.Core.List.{List}
 use native.Mathlib.Omega.{arith}
-use borrow.Author.Tests.{eq-eqb, ne_eqb}
+use borrow.Author.Tests.{eq-eqb, eqb-true}
+use borrow.Author.Rules.{rules}
 use lib.ListN.{length}
-use lib.Seq.{take_all}
 use lib.Ieee.{Float}
-use Rattle.answers.specs.Outcome.{accepted}
 use Rattle.antenna.specs.SetUp.{set_up_of, beside_of}
 use Rattle.antenna_words.proofs.SetUpWords.{set_up_counts}
 use Rattle.words.proofs.Laid.{laid-whole}
 use Rattle.gains_calls.specs.Search.{search_words}
 use Rattle.antenna_calls.specs.Antennas.{recorded, set_up_call}
-use Rattle.gains_calls.proofs.SetUps.{ready, turned_away, some_number, four-words}
+use Rattle.gains_calls.proofs.SetUps.{four-words}
 use Rattle.antenna_calls.proofs.setup.Goals as goal
 
-pub returns-then-parm-ne20 : goal.returns-then-parm-ne20
-unfolding set_up_call
-returns-then-parm-ne20 c = record {
-  out_after = rw (ne_eqb _ _ c.if-parm-ne20.true);
-  antenna_after = λ z. absurd (omega arith);
-}
+neither : (x y : Bool) → (not x || not y) ≡ false → (x ≡ true) × (y ≡ true)
+neither true true h = (refl, refl)
+neither true false h = absurd (false≢true (sym h))
+neither false y h = absurd (false≢true (sym h))
 
-pub returns-then-antenna-ne-ANTENNA : goal.returns-then-antenna-ne-ANTENNA
-unfolding set_up_call
-returns-then-antenna-ne-ANTENNA c = record {
-  out_after = rw (eq-eqb _ _ c.if-parm-ne20.false, ne_eqb _ _ c.if-antenna-ne-ANTENNA.true);
-  antenna_after = λ z. absurd (omega arith);
-}
+pub returns-in-Ok-antinit2-clause-out_after : goal.returns-in-Ok-antinit2-clause-out_after
+unfolding set_up_call recorded
+returns-in-Ok-antinit2-clause-out_after c =
+    let a = c.args in
+    let s = c.in-Ok-antinit2 in
+    let e : c.in-Ok.parm ≡ a.parm.now = search rules in
+    let twenty : length a.parm.now ≡ 20 = search rules in
+    let sizes = neither _ _ c.if-antenna-out.false in
+    let words = search_words s.s.readings s.s.antenna.peak in
+    let w = laid-whole a.out.now words (omega (arith, four-words s.s.readings s.s.antenna.peak, eqb-true _ _ sizes.1)) in
+    rw (eq-eqb _ _ twenty, sizes.0, sizes.1, ← e, ← s.ensures.lent_after, sym s.ensures.result_value, c.put_antenna.ensures.out_after, c.put_search.ensures, w)
 
-pub returns-then-out-ne4 : goal.returns-then-out-ne4
-unfolding set_up_call
-returns-then-out-ne4 c = record {
-  out_after = rw (eq-eqb _ _ c.if-parm-ne20.false, eq-eqb _ _ c.if-antenna-ne-ANTENNA.false, ne_eqb _ _ c.if-out-ne4.true);
-  antenna_after = λ z. absurd (omega arith);
-}
-
-pub returns-in-Refused : goal.returns-in-Refused
-unfolding recorded set_up_call
-returns-in-Refused c =
-    let s = c in
-    let p = s in
-    let start = p in
-    let parm = start.args.parm.now in
-    let n = c.in-Refused.n in
-    let e : p.parm_at.result ≡ parm = p.parm_at.ensures ∙ take_all 20 parm (omega arith) in
-    let h = sym s.antinit2-s.ensures.result_value ∙ turned_away s.antinit2-s.result n c.in-Refused.is in record {
-      out_after = rw (eq-eqb _ _ p.if-parm-ne20.false, eq-eqb _ _ p.if-antenna-ne-ANTENNA.false, eq-eqb _ _ p.if-out-ne4.false, ← e, s.antinit2-s.ensures.lent_after, h);
-      antenna_after = λ z. absurd (omega (arith, some_number p.parm_at.result (length start.args.table.now) n h));
-    }
-
-pub returns-in-Ready : goal.returns-in-Ready
-unfolding recorded set_up_call
-returns-in-Ready c =
-    let put = c in
-    let search = put in
-    let s = search in
-    let p = s in
-    let start = p in
-    let parm = start.args.parm.now in
-    let out = start.args.out.now in
-    let size = length start.args.table.now in
-    let ant = s.antinit2-s.result.antenna in
-    let readings = search.in-Ready.readings in
-    let e : p.parm_at.result ≡ parm = p.parm_at.ensures ∙ take_all 20 parm (omega arith) in
-    let h : set_up_of p.parm_at.result size ≡ accepted (ant, readings) = sym s.antinit2-s.ensures.result_value ∙ ready s.antinit2-s.result readings search.in-Ready.is in
-    let w = laid-whole out (search_words readings ant.peak) (omega (arith, four-words readings ant.peak)) in record {
-      out_after = rw (eq-eqb _ _ p.if-parm-ne20.false, eq-eqb _ _ p.if-antenna-ne-ANTENNA.false, eq-eqb _ _ p.if-out-ne4.false, ← e, ← s.antinit2-s.ensures.lent_after, h, put.put_antenna.ensures.out_after, search.put_search.ensures, w);
-      antenna_after = λ z. put.put_antenna.ensures.out_after_2 (set_up_counts p.parm_at.result size h) ∙ s.antinit2-s.ensures.antenna_value ∙ ap (λ (q : List Float). beside_of (set_up_of q size)) e;
-    }
+pub returns-in-Ok-antinit2-clause-antenna_after : goal.returns-in-Ok-antinit2-clause-antenna_after
+returns-in-Ok-antinit2-clause-antenna_after c =
+    let s = c.in-Ok-antinit2 in
+    let size = length c.args.table.now in
+    let e : c.in-Ok.parm ≡ c.args.parm.now = search rules in
+    let h = sym s.ensures.result_value in
+    λ z. c.put_antenna.ensures.out_after_2 (set_up_counts c.in-Ok.parm size h) ∙ s.ensures.antenna_value ∙ ap (λ (q : List Float). beside_of (set_up_of q size)) e

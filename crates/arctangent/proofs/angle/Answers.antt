@@ -1,10 +1,10 @@
 -- `arctangent::angle` meets its contract.
 use mathlib.Core.Path.{◌≡◌, ap, ◌∙◌, subst}
-use Prim.Native.Nat.{ℕ, ◌*◌, ◌^◌, ◌≤◌}
+use Prim.Native.Nat.{ℕ, ◌*◌}
 use native.Mathlib.Omega.{arith}
 use lib.IntN.{pos}
 use Rattle.arctangent.specs.Arctangent as Spec
-use Rattle.arctangent.proofs.Angles.{Angle, angle_of, halved-le}
+use Rattle.arctangent.proofs.Angles.{Angle, angle_of}
 use Rattle.arctangent.proofs.angle.Goals as goal
 use Rattle.arctangent.proofs.angle.Goals.{After-halved-quarter, After-series_left}
 
@@ -16,19 +16,6 @@ found : (c : After-series_left) → Angle c.before.before.before.args.t (4 * c.s
 found c =
     angle_of c.before.before.before.args.t c.series_left.result c.before.before.before.requires
     (subst (λ (h : ℕ). Spec.series h 7 1 h ≡ pos c.series_left.result) (twice c.before) c.series_left.ensures)
-
-pub halved-requires : goal.halved-requires
-halved-requires c = c.requires
-
-pub halved-quarter-requires : goal.halved-quarter-requires
-halved-quarter-requires c = rw c.halved.ensures (omega (arith, halved-le c.before.args.t c.before.requires))
-
-pub series_left-requires : goal.series_left-requires
-series_left-requires c =
-    let t = c.before.before.args.t in
-    let a = halved-le t c.before.before.requires in
-    let small : c.halved-quarter.result ≤ 2 ^ 30 = rw (twice c) (omega (arith, halved-le (Spec.halved t) (omega arith))) in
-    (small, small, omega arith, omega arith)
 
 pub overflow_mul-result : goal.overflow_mul-result
 overflow_mul-result c = record { fits = omega (arith, (found c).under) }

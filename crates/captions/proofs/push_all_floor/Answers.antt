@@ -5,9 +5,6 @@ use Rattle.labels.proofs.Put.{upto}
 use Rattle.captions.specs.Words.{all_floor_text}
 use Rattle.captions.proofs.push_all_floor.Goals as goal
 
-pub shape_of-out : goal.shape_of-out
-shape_of-out c = c.push_bytes.auto.out
-
 pub returns : goal.returns
 unfolding all_floor_text quoted
 returns c = upto 70 c.push_bytes.ensures (lit≤ tt)

@@ -7,24 +7,9 @@ use Rattle.labels.proofs.Put.{of, more, next-to}
 use Rattle.captions.specs.Words.{dot_text}
 use Rattle.captions.proofs.push_dot.Goals as goal
 
-pub push_whole-y_at-requires : goal.push_whole-y_at-requires
-push_whole-y_at-requires c = omega (arith, c.requires)
-
-pub push_whole-end-requires : goal.push_whole-end-requires
-push_whole-end-requires c = omega (arith, c.push_whole-y_at.ensures.short, c.push_whole-y_at.auto.out, c.requires)
-
-pub push_bytes-requires : goal.push_bytes-requires
-push_bytes-requires c = omega (arith, c.push_whole-y_at.ensures.short, c.push_whole-y_at.auto.out, c.push_whole-end.ensures.short, c.push_whole-end.auto.out, c.requires)
-
-pub shape_of-out : goal.shape_of-out
-shape_of-out c = c.push_bytes.auto.out ∙ c.push_whole-end.auto.out ∙ c.push_whole-y_at.auto.out
-
 pub returns : goal.returns
 unfolding dot_text quoted
 returns c =
-    let p2 = c in
-    let p1 = p2 in
-    let p0 = p1 in
-    let w1 = next-to p0.push_whole-y_at.ensures p1.push_whole-end.ensures (omega (arith, p0.push_whole-y_at.ensures.short, c.requires)) in
-    let w2 = next-to w1 (of p2.push_bytes.ensures) (omega (arith, p0.push_whole-y_at.ensures.short, p1.push_whole-end.ensures.short, c.requires)) in
+    let w1 = next-to c.push_whole-y_at.ensures c.push_whole-end.ensures (omega arith) in
+    let w2 = next-to w1 (of c.push_bytes.ensures) (omega arith) in
     (more 60 w2 (lit≤ tt))

@@ -5,9 +5,6 @@ use Rattle.labels.proofs.Put.{upto}
 use Rattle.captions.specs.Words.{silence_text}
 use Rattle.captions.proofs.push_silence.Goals as goal
 
-pub shape_of-out : goal.shape_of-out
-shape_of-out c = c.push_bytes.auto.out
-
 pub returns : goal.returns
 unfolding silence_text quoted
 returns c = upto 150 c.push_bytes.ensures (lit≤ tt)

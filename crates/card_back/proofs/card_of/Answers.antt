@@ -3,7 +3,7 @@ use mathlib.Core.Path.{sym, ◌∙◌}
 use native.Mathlib.Omega.{arith}
 use lib.Seq.{length-take-le}
 use Rattle.card_back.proofs.Sound.{sound}
-use Rattle.card_back.proofs.Steps.{not-long, no_record, record_read, no_number, station_delivered}
+use Rattle.card_back.proofs.Steps.{not-long, no_record, no_number, station_delivered}
 use Rattle.card_back.proofs.card_of.Goals as goal
 
 pub returns-then-station-ne237 : goal.returns-then-station-ne237
@@ -14,28 +14,18 @@ slice_bounds-read-end c = sym (length-take-le 225 c.args.station.now (omega arit
 
 pub returns-then-not-finite_end : goal.returns-then-not-finite_end
 returns-then-not-finite_end c =
-    let test = c in
-    let read = test in
-    let a = read.args in
-    no_number a.station.now a.out.now read.if-station-ne237.false read.read-reading.result read.read-reading.ensures test.in-Accepted.is (sym test.finite_end.ensures ∙ c.if-not-finite_end.true)
+    let a = c.args in
+    no_number a.station.now a.out.now c.if-station-ne237.false c.in-Ok.record c.in-Ok.ensures (sym c.finite_end.ensures ∙ c.if-not-finite_end.true)
 
 pub write_card-requires : goal.write_card-requires
 write_card-requires c =
-    let test = c in
-    let read = test in
-    let a = read.args in
-    sound read.read-reading.result.station a.station.now read.if-station-ne237.false (record_read a.station.now a.out.now read.if-station-ne237.false read.read-reading.result read.read-reading.ensures test.in-Accepted.is) (sym test.finite_end.ensures ∙ c.if-not-finite_end.false)
+    let a = c.args in
+    sound c.in-Ok.record a.station.now c.if-station-ne237.false (sym c.in-Ok.ensures) (sym c.finite_end.ensures ∙ c.if-not-finite_end.false)
 
-pub returns-in-Refused : goal.returns-in-Refused
-returns-in-Refused c =
-    let read = c in
-    let a = read.args in
-    no_record a.station.now a.out.now read.if-station-ne237.false read.read-reading.result read.read-reading.ensures c.in-Refused.field-0 c.in-Refused.is
+pub returns-in_default : goal.returns-in_default
+returns-in_default c = let a = c.args in no_record a.station.now a.out.now c.if-station-ne237.false c.read.result c.in_default.not-Ok c.read.ensures
 
-pub returns-else-not-finite_end : goal.returns-else-not-finite_end
-returns-else-not-finite_end c =
-    let put = c in
-    let test = put in
-    let read = test in
-    let a = read.args in
-    put.write_card.ensures ∙ sym (station_delivered a.station.now a.out.now read.if-station-ne237.false read.read-reading.result read.read-reading.ensures test.in-Accepted.is (sym test.finite_end.ensures ∙ put.if-not-finite_end.false))
+pub returns : goal.returns
+returns c =
+    let a = c.args in
+    c.write_card.ensures ∙ sym (station_delivered a.station.now a.out.now c.if-station-ne237.false c.in-Ok.record c.in-Ok.ensures (sym c.finite_end.ensures ∙ c.if-not-finite_end.false))

@@ -10,7 +10,7 @@ use Rattle.fields.specs.declared.Kind.{Kind}
 use Rattle.station.specs.declared.Station.{Station}
 use Rattle.card_back.specs.Text.{kind_of, place_in, text_of}
 use Rattle.card_back.specs.Back.{reads}
-use Rattle.card_back.proofs.Steps.{not-read, no_room, written}
+use Rattle.card_back.proofs.Steps.{not-read, no_room, in_room}
 use Rattle.card_back.proofs.write_card.Goals as goal
 use Rattle.card_back.proofs.write_card.Goals.{After-push_text-n, After-reads}
 
@@ -50,5 +50,5 @@ returns c =
     let push = read in
     let a = push.args in
     let w = lay.push_bytes.ensures in
-    written (text-of a.s a.bytes.now) a.bytes.now a.out.now (sym (tested (goal.at.returns c).After-reads (pushed (goal.at.returns c).After-push_text-n)) ∙ tests.if-not-reads.false) tests.if-out-lt8192.false push.push_text-n.result _
+    in_room (text-of a.s a.bytes.now) a.bytes.now a.out.now (sym (tested (goal.at.returns c).After-reads (pushed (goal.at.returns c).After-push_text-n)) ∙ tests.if-not-reads.false) tests.if-out-lt8192.false push.push_text-n.result _
     (record { bytes = w.bytes ∙ ap (laid a.out.now 0) (pushed (goal.at.returns c).After-push_text-n); after = push.push_text-n.ensures.text.after ∙ ap (λ (k : Kind). 0 + length (text_of k (place_in a.s a.bytes.now))) push.kind_of.ensures })

@@ -43,4 +43,4 @@ returns c =
     let put = c in
     let room = c.if-text-lt2048.false in
     let p = with_length put.push_answers.ensures room put.push_answers.auto.out in
-    rw (le-ltb _ _ room, le-ltb _ _ c.if-base-gt359.false, ← c.show-a.ensures, ← c.show-b.ensures) (record { text = p.0; within = p.1 })
+    rw (le-ltb _ _ room, le-ltb _ _ c.if-base-gt359.false, ← c.show.ensures, ← c.show-2.ensures) (record { text = p.0; within = p.1 })

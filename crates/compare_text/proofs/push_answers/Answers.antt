@@ -1,55 +1,40 @@
 -- `compare_text::push_answers` meets its contract. Assumes nothing.
-use mathlib.Core.Path.{◌∙◌}
+use mathlib.Core.Path.{◌≡◌}
 use native.Mathlib.Omega.{arith}
 use lib.Dec.{lit≤}
+use lib.ListN.{length}
+use Rattle.std.proofs.Common.{rules}
 use Rattle.labels.proofs.Put.{more, next-to}
-use Rattle.shown.specs.Plate.{said, shown_answer}
-use Rattle.compare_text.specs.Compare.{answers_text}
+use Rattle.shown.proofs.Rows.{numbers_shown, kinds_shown}
+use Rattle.compare_text.specs.Compare.{answers_text, plates_text}
 use Rattle.compare_text.proofs.push_answers.Goals as goal
 
-pub push_refused-next-requires : goal.push_refused-next-requires
-push_refused-next-requires c = omega (arith, c.requires.0)
+pub returns-in-Ok-Ok : goal.returns-in-Ok-Ok
+unfolding answers_text plates_text
+returns-in-Ok-Ok c =
+    let a = c.in-Ok-Ok.a in
+    let b = c.in-Ok-Ok.b in
+    let a-numbers : length a.numbers ≡ 360 = search rules in
+    let a-kinds : length a.kinds ≡ 360 = search rules in
+    let b-numbers : length b.numbers ≡ 360 = search rules in
+    let b-kinds : length b.kinds ≡ 360 = search rules in
+    rw (c.in-Ok-Ok.is-0, c.in-Ok-Ok.is-1, numbers_shown a a-numbers, kinds_shown a a-kinds, numbers_shown b b-numbers, kinds_shown b b-kinds) c.push_lines.ensures
 
-pub push_refused-requires : goal.push_refused-requires
-push_refused-requires c = let first = c in omega (arith, first.push_refused-next.ensures.short, first.push_refused-next.auto.out, c.requires.0)
+pub returns-in-Ok-Err : goal.returns-in-Ok-Err
+unfolding answers_text
+returns-in-Ok-Err c =
+    let line = rw c.from.ensures at c.push_refused.ensures in
+    rw (c.in-Ok-Err.is-0, c.in-Ok-Err.is-1) (more 540 line (lit≤ tt))
 
-pub push_refused-requires-in-Plate-b : goal.push_refused-requires-in-Plate-b
-push_refused-requires-in-Plate-b c = omega (arith, c.requires.0)
+pub returns-in-Err-Ok : goal.returns-in-Err-Ok
+unfolding answers_text
+returns-in-Err-Ok c =
+    let line = rw c.from-in-Err-Ok.ensures at c.push_refused-in-Err-Ok.ensures in
+    rw (c.in-Err-Ok.is-0, c.in-Err-Ok.is-1) (more 540 line (lit≤ tt))
 
-pub push_refused-requires-in-Refused-b-2 : goal.push_refused-requires-in-Refused-b-2
-push_refused-requires-in-Refused-b-2 c = omega (arith, c.requires.0)
-
-pub push_plates-requires : goal.push_plates-requires
-push_plates-requires c = c.requires
-
-pub shape_of-out-in-Refused-b : goal.shape_of-out-in-Refused-b
-shape_of-out-in-Refused-b c = c.push_refused.auto.out ∙ c.push_refused-next.auto.out
-
-pub returns-in-Refused-b : goal.returns-in-Refused-b
-unfolding answers_text shown_answer said
-returns-in-Refused-b c =
-    let second = c in
-    let first = second in
-    rw (c.in-Refused.is, c.in-Refused-b.is)
-    (more 540 (next-to first.push_refused-next.ensures second.push_refused.ensures (omega (arith, first.push_refused-next.ensures.short, c.requires.0))) (lit≤ tt))
-
-pub shape_of-out-in-Plate-b : goal.shape_of-out-in-Plate-b
-shape_of-out-in-Plate-b c = c.push_refused-in-Plate-b.auto.out
-
-pub returns-in-Plate-b : goal.returns-in-Plate-b
-unfolding answers_text shown_answer said
-returns-in-Plate-b c = rw (c.in-Refused.is, c.in-Plate-b.is) (more 540 c.push_refused-in-Plate-b.ensures (lit≤ tt))
-
-pub shape_of-out-in-Refused-b-2 : goal.shape_of-out-in-Refused-b-2
-shape_of-out-in-Refused-b-2 c = c.push_refused-in-Refused-b-2.auto.out
-
-pub returns-in-Refused-b-2 : goal.returns-in-Refused-b-2
-unfolding answers_text shown_answer said
-returns-in-Refused-b-2 c = rw (c.in-Plate.is, c.in-Refused-b-2.is) (more 540 c.push_refused-in-Refused-b-2.ensures (lit≤ tt))
-
-pub shape_of-out-in-Plate-b-2 : goal.shape_of-out-in-Plate-b-2
-shape_of-out-in-Plate-b-2 c = c.push_plates.auto.out
-
-pub returns-in-Plate-b-2 : goal.returns-in-Plate-b-2
-unfolding answers_text shown_answer said
-returns-in-Plate-b-2 c = rw (c.in-Plate.is, c.in-Plate-b-2.is) c.push_plates.ensures
+pub returns-in-Err-Err : goal.returns-in-Err-Err
+unfolding answers_text
+returns-in-Err-Err c =
+    let first = rw c.from-in-Err-Err.ensures at c.push_refused-next.ensures in
+    let second = rw c.from-in-Err-Err-2.ensures at c.push_refused-in-Err-Err.ensures in
+    rw (c.in-Err-Err.is-0, c.in-Err-Err.is-1) (more 540 (next-to first second (omega (arith, first.short, c.requires.0))) (lit≤ tt))

@@ -8,6 +8,4 @@ use Rattle.curve.proofs.push_coordinates.Goals as goal
 pub returns : goal.returns
 unfolding coordinates quoted
 returns c =
-    let y = c in
-    let x = y in
-    more 24 (next-to x.push_whole-space_at.ensures y.push_whole.ensures (omega arith)) (omega arith)
+    more 24 (next-to c.push_whole-space_at.ensures c.push_whole.ensures (omega arith)) (omega arith)

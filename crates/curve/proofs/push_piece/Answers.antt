@@ -9,12 +9,9 @@ use Rattle.curve.proofs.push_piece.Goals as goal
 pub returns-then-fresh : goal.returns-then-fresh
 unfolding piece quoted
 returns-then-fresh c =
-    let l = c in
-    let m = l in
-    rw m.if-fresh.true (next-to m.push_coordinates-line_at.ensures l.push_coordinates.ensures (omega arith))
+    rw c.if-fresh.true (next-to c.push_coordinates-line_at.ensures c.push_coordinates.ensures (omega arith))
 
 pub returns : goal.returns
 unfolding piece quoted
 returns c =
-    let l = c in
-    rw l.if-fresh.false (more 48 l.push_coordinates-2.ensures (lit≤ tt))
+    rw c.if-fresh.false (more 48 c.push_coordinates-2.ensures (lit≤ tt))

@@ -10,7 +10,7 @@ use Rattle.curve.proofs.push_pieces.Goals as goal
 
 pub loop-v-init : goal.loop-v-init
 unfolding before pieces_to
-loop-v-init c = let a = c.args in (lit≤ tt, refl, refl, upto 0 (wrote_none a.out.now a.at) (lit≤ tt))
+loop-v-init c = let a = c.args in (refl, refl, upto 0 (wrote_none a.out.now a.at) (lit≤ tt))
 
 pub spot-requires : goal.spot-requires
 spot-requires c = (omega arith, omega arith)
@@ -22,15 +22,14 @@ loop-v-preserved c =
     let spot = pushed in
     let here = spot in
     let head = here in (
-      omega arith,
-      pushed.push_step-end.auto.out ∙ head.loop-v.invariant.1,
+      pushed.push_step-end.auto.out ∙ head.loop-v.invariant.0,
       rw add-one here.is_drawn-here.ensures,
-      rw (add-one, ← here.is_drawn-here.ensures, ← head.loop-v.invariant.2, ← spot.spot.ensures)
-          (more _ (next-to head.loop-v.invariant.3 pushed.push_step-end.ensures (omega arith)) (omega arith)),
+      rw (add-one, ← here.is_drawn-here.ensures, ← head.loop-v.invariant.1, ← spot.spot.ensures)
+          (more _ (next-to head.loop-v.invariant.2 pushed.push_step-end.ensures (omega arith)) (omega arith)),
     )
 
 pub shape_of-out : goal.shape_of-out
-shape_of-out c = c.loop-v.invariant.1
+shape_of-out c = c.loop-v.invariant.0
 
 pub returns : goal.returns
-returns c = let e : c.loop-v.v ≡ 361 = omega arith in more 17328 (rw e at c.loop-v.invariant.3) (lit≤ tt)
+returns c = let e : c.loop-v.v ≡ 361 = omega arith in more 17328 (rw e at c.loop-v.invariant.2) (lit≤ tt)

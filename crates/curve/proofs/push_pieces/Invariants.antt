@@ -1,5 +1,5 @@
 -- `curve::push_pieces` meets its contract. Assumes nothing.
-use Prim.Native.Nat.{◌*◌, ◌-◌, ◌≤◌}
+use Prim.Native.Nat.{◌*◌}
 use mathlib.Core.Path.{◌≡◌}
 use lib.ListN.{length}
 use Rattle.labels.specs.Writing.{Put}
@@ -8,7 +8,4 @@ use Rattle.curve.proofs.push_pieces.Given as goal
 
 abbrev pub invariant-loop-v : goal.invariant-loop-v
 invariant-loop-v l =
-    (l.v ≤ 361) × (length l.out ≡ length l.initial.out) × (l.earlier ≡ before (drawn l.kinds l.fold l.k) l.v) × Put (48 * l.v) l.initial.out l.at (pieces_to (drawn l.kinds l.fold l.k) (spot_of l.numbers l.peak) l.v) l.out l.end
-
-abbrev pub decreases-loop-v : goal.decreases-loop-v
-decreases-loop-v l = 361 - l.v
+    (length l.out ≡ length l.initial.out) × (l.earlier ≡ before (drawn l.kinds l.fold l.stroke) l.v) × Put (48 * l.v) l.initial.out l.at (pieces_to (drawn l.kinds l.fold l.stroke) (spot_of l.numbers l.peak) l.v) l.out l.end

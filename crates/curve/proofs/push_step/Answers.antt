@@ -8,8 +8,7 @@ use Rattle.curve.proofs.push_step.Goals as goal
 pub returns-then-here : goal.returns-then-here
 unfolding step
 returns-then-here c =
-    let p = c in
-    rw p.if-here.true p.push_piece.ensures
+    rw c.if-here.true c.push_piece.ensures
 
 pub returns : goal.returns
 unfolding step

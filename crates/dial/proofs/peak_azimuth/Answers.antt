@@ -8,7 +8,7 @@ use Rattle.dial.proofs.peak_azimuth.Goals as goal
 
 pub loop-v-init : goal.loop-v-init
 unfolding peak_to
-loop-v-init c = (refl, omega arith, omega arith, omega arith)
+loop-v-init c = (refl, omega arith)
 
 pub better-best-requires : goal.better-best-requires
 better-best-requires c = (omega arith, omega arith)
@@ -18,8 +18,8 @@ loop-v-preserved c =
     let head = c in
     let v = head.loop-v.v in
     let e : v + 1 - 1 ≡ v = omega arith in
-    (rw (e, peak-more head.args.numbers.now v (omega arith), ← head.loop-v.invariant.0) c.better-best.ensures.0, omega arith, omega arith, c.better-best.ensures.1)
+    (rw (e, peak-more head.args.numbers.now v (omega arith), ← head.loop-v.invariant.0) c.better-best.ensures.0, c.better-best.ensures.1)
 
 pub returns : goal.returns
 unfolding peak_azimuth
-returns c = let e : c.loop-v.v ≡ 360 = omega arith in (rw e at c.loop-v.invariant.0, c.loop-v.invariant.3)
+returns c = let e : c.loop-v.v ≡ 360 = omega arith in (rw e at c.loop-v.invariant.0, c.loop-v.invariant.1)

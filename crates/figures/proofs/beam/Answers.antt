@@ -2,14 +2,10 @@
 use Prim.Native.Nat.{◌+◌}
 use mathlib.Core.Path.{◌≡◌}
 use native.Mathlib.Omega.{arith}
-use borrow.Author.Tests.{eq-eqb, ne_eqb}
+use borrow.Author.Tests.{ne_eqb}
 use Rattle.figures.specs.Figures.{beam_of}
 use Rattle.figures.proofs.Laws.{beam_most}
 use Rattle.figures.proofs.beam.Goals as goal
-
-pub returns-then-clockwise-eq359 : goal.returns-then-clockwise-eq359
-unfolding beam_of
-returns-then-clockwise-eq359 c = (rw (← c.steps-clockwise.ensures.0, eq-eqb _ _ c.if-clockwise-eq359.true), omega arith)
 
 pub returns : goal.returns
 unfolding beam_of

@@ -8,15 +8,15 @@ use Rattle.figures.proofs.leads.Goals.{then-leads_at, else-leads_at}
 
 pub loop-v-init : goal.loop-v-init
 unfolding count_to
-loop-v-init c = (refl, omega arith, omega arith)
+loop-v-init c = (refl, omega arith)
 
 pub loop-v-preserved : goal.loop-v-preserved
 unfolding count_to
 loop-v-preserved c =
     let led = c.leads_at.ensures in
     elim c.if-leads_at.branch [
-      | then-leads_at w ↦ (rw (add-one, ← led, w.if-leads_at.true) (omega arith), omega arith, omega arith)
-      | else-leads_at w ↦ (rw (add-one, ← led, w.if-leads_at.false) (omega arith), omega arith, omega arith)
+      | then-leads_at w ↦ (rw (add-one, ← led, w.if-leads_at.true) (omega arith), omega arith)
+      | else-leads_at w ↦ (rw (add-one, ← led, w.if-leads_at.false) (omega arith), omega arith)
     ]
 
 pub returns : goal.returns

@@ -1,11 +1,8 @@
 -- `figures::leads` meets its contract. Assumes nothing.
-use Prim.Native.Nat.{◌-◌, ◌≤◌}
+use Prim.Native.Nat.{◌≤◌}
 use mathlib.Core.Path.{◌≡◌}
 use Rattle.figures.specs.Figures.{leads_at, count_to}
 use Rattle.figures.proofs.leads.Given as goal
 
 abbrev pub invariant-loop-v : goal.invariant-loop-v
-invariant-loop-v l = (l.n ≡ count_to (leads_at l.first l.kinds l.second) l.v) × (l.v ≤ 360) × (l.n ≤ l.v)
-
-abbrev pub decreases-loop-v : goal.decreases-loop-v
-decreases-loop-v l = 360 - l.v
+invariant-loop-v l = (l.n ≡ count_to (leads_at l.first l.kinds l.second) l.v) × (l.n ≤ l.v)

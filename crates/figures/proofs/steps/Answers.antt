@@ -10,12 +10,12 @@ use Rattle.figures.proofs.steps.Goals.{After-is_near}
 
 pub loop-n-init : goal.loop-n-init
 unfolding steps_of peak_of
-loop-n-init c = (rw c.requires.0 (omega arith), omega arith, omega arith, rw c.requires.0)
+loop-n-init c = (rw c.requires.0 (omega arith), omega arith, rw c.requires.0)
 
 -- the test is that of the beam
 tested : (c : After-is_near) → in_beam c.before.before.before.before.before.args.numbers.now c.before.before.before.loop-n.v ≡ c.is_near.result
 unfolding in_beam
-tested c = rw (← c.before.before.before.loop-n.invariant.3) (sym c.is_near.ensures)
+tested c = rw (← c.before.before.before.loop-n.invariant.2) (sym c.is_near.ensures)
 
 pub returns-then-not-is_near : goal.returns-then-not-is_near
 returns-then-not-is_near c =
@@ -31,7 +31,7 @@ loop-n-preserved c =
     let n = loop.n in
     let left : 359 - n - 1 ≡ 359 - (n + 1) = omega arith in
     let more = rw left at (row_goes_on a.numbers.now a.turn loop.v (359 - n) (omega arith) (tested (goal.at.loop-n-preserved c).After-is_near ∙ c.if-not-is_near.false)) in
-    (omega (arith, loop.invariant.0, more), omega arith, omega arith, loop.invariant.3)
+    (omega (arith, loop.invariant.0, more), omega arith, loop.invariant.2)
 
 pub returns : goal.returns
 returns c =

@@ -16,21 +16,12 @@ returns-then-out-lt131072 c =
 pub returns-then-peak-gt200000 : goal.returns-then-peak-gt200000
 unfolding pair_in
 returns-then-peak-gt200000 c =
-    let peak = c in
-    let out = peak.args.out.now in
-    rw (le-ltb _ _ peak.if-out-lt131072.false, ← peak.greater_peak-peak.ensures, lt-ltb _ _ c.if-peak-gt200000.true) (record { text = wrote_none out 0; within = (omega arith, refl) })
-
-pub push_pair-requires : goal.push_pair-requires
-push_pair-requires c = (omega arith, c.greater_peak-peak.ensures, omega (arith, c.if-peak-gt200000.false))
-
-pub shape_of-out : goal.shape_of-out
-shape_of-out c = c.push_pair.auto.out
+    let out = c.args.out.now in
+    rw (le-ltb _ _ c.if-out-lt131072.false, ← c.greater_peak-peak.ensures, lt-ltb _ _ c.if-peak-gt200000.true) (record { text = wrote_none out 0; within = (omega arith, refl) })
 
 pub returns : goal.returns
 unfolding pair_in
 returns c =
-    let p = c in
-    let peak = p in
-    let left = peak.if-out-lt131072.false in
-    let w = p.push_pair.ensures in
-    rw (le-ltb _ _ left, ← peak.greater_peak-peak.ensures, le-ltb _ _ p.if-peak-gt200000.false) (record { text = w.wrote; within = within w.wrote (omega (arith, w.wrote.after, w.short, left, p.push_pair.auto.out)) })
+    let left = c.if-out-lt131072.false in
+    let w = c.push_pair.ensures in
+    rw (le-ltb _ _ left, ← c.greater_peak-peak.ensures, le-ltb _ _ c.if-peak-gt200000.false) (record { text = w.wrote; within = within w.wrote (omega (arith, w.wrote.after, w.short, left, c.push_pair.auto.out)) })

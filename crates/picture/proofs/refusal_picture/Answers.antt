@@ -14,12 +14,8 @@ returns-then-out-lt65536 c =
     let out = c.args.out.now in
     rw (lt-ltb (length out) 65536 c.if-out-lt65536.true) (record { text = wrote_none out 0; within = (omega arith, refl) })
 
-pub shape_of-out : goal.shape_of-out
-shape_of-out c = c.push_refusal.auto.out
-
 pub returns : goal.returns
 unfolding refusal_in
 returns c =
-    let p = c in
-    let left = p.if-out-lt65536.false in
-    rw (le-ltb _ _ left) (record { text = p.push_refusal.ensures.wrote; within = within p.push_refusal.ensures (omega (arith, left, p.push_refusal.auto.out)) })
+    let left = c.if-out-lt65536.false in
+    rw (le-ltb _ _ left) (record { text = c.push_refusal.ensures.wrote; within = within c.push_refusal.ensures (omega (arith, left, c.push_refusal.auto.out)) })

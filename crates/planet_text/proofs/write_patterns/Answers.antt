@@ -1,33 +1,28 @@
 -- `planet_text::write_patterns` meets its contract. Assumes nothing.
-use mathlib.Core.Path.{◌≡◌}
-use mathlib.Core.List.{List}
-use native.Mathlib.Omega.{arith}
-use lib.ListN.{length, replicate, length-replicate}
-use lib.Ieee.{Float}
-use Rattle.floats.specs.Ops.{+0}
-use Rattle.planet_text.proofs.Steps.{delivered_refusal, row-refused, row-filled}
+use mathlib.Core.Path.{◌≡◌, sym}
+use Rattle.std.proofs.Common.{Err, rules}
+use Rattle.plate_text.proofs.Asked.{row_refused, row_there}
+use Rattle.planet_text.proofs.Steps.{delivered_refusal, no_row, no_vertical, both_parts}
 use Rattle.planet_text.proofs.write_patterns.Goals as goal
 
--- the floats that are lent for the row
-abbrev lent : List Float
-lent = replicate 360 +0
+pub returns-in_err-horizontal : goal.returns-in_err-horizontal
+returns-in_err-horizontal c =
+    let q = c.args.q in
+    let t = c.args.table.now in
+    let out : c.from_residual.result ≡ Err c.in_err-horizontal.field-0.0 = search rules in
+    rw out (delivered_refusal _ c.args.text.now _ (no_row q t _ (row_refused q t _ c.asked_row.ensures _ c.in_err-horizontal.was)))
 
-room : length lent ≡ 360
-room = length-replicate 360 +0
+pub returns-in_err-vertical : goal.returns-in_err-vertical
+returns-in_err-vertical c =
+    let q = c.args.q in
+    let t = c.args.table.now in
+    let row = row_there q t _ c.asked_row.ensures _ c.in_ok-horizontal.was in
+    let out : c.from_residual-in_err-vertical.result ≡ Err c.in_err-vertical.field-0.0 = search rules in
+    rw out (delivered_refusal _ c.args.text.now _ (no_vertical q t _ row _ (sym c.in_err-vertical.ensures)))
 
-pub write_vertical-requires : goal.write_vertical-requires
-write_vertical-requires c = (c.requires, omega arith)
-
-pub returns-in-Refused : goal.returns-in-Refused
-returns-in-Refused c =
-    let told = c.in-Refused.is in
-    let answered = c in
-    let a = answered.args in
-    delivered_refusal _ a.text.now c.in-Refused.n (row-refused a.q a.table.now lent room answered.row-answer.result answered.row-answer.ensures.result_value _ told)
-
-pub returns-in-FrontToBack : goal.returns-in-FrontToBack
-returns-in-FrontToBack c =
-    let told = c.in-FrontToBack.is in
-    let answered = c in
-    let a = answered.args in
-    rw (row-filled a.q a.table.now lent room answered.row-answer.result answered.row-answer.ensures.result_value _ told, ← answered.row-answer.ensures.lent_after) c.write_vertical.ensures
+pub returns : goal.returns
+returns c =
+    let q = c.args.q in
+    let t = c.args.table.now in
+    let row = row_there q t _ c.asked_row.ensures _ c.in_ok-horizontal.was in
+    rw (both_parts q t _ row _ (sym c.in_ok-vertical.ensures)) c.write_text.ensures

@@ -4,7 +4,7 @@ use mathlib.Core.Bool.{true, ◌&&◌}
 use native.Mathlib.Omega.{arith}
 use lib.ListN.{take}
 use Rattle.floats.proofs.Tests.{both}
-use Rattle.answers.specs.Refusals.{SPAN}
+use Rattle.answers.specs.declared.Refusal.TheVariants as refusals
 use Rattle.words.specs.Laid.{laid}
 use Rattle.words.proofs.Laid.{take-laid}
 use Rattle.planet_lines.specs.Losses.{all_in_span}
@@ -20,7 +20,7 @@ spans c = rw (c.before.all_in_span.ensures, c.all_in_span-2.ensures)
 pub returns-then-not-spans : goal.returns-then-not-spans
 returns-then-not-spans c =
     let a = c.args in
-    delivered_refusal _ a.text.now SPAN (out_of_span a.parm a.horizontal.now a.vertical.now (sym (spans (goal.at.returns-then-not-spans c).After-all_in_span-2) ∙ c.if-not-spans.true))
+    delivered_refusal _ a.text.now refusals.Span (out_of_span a.parm a.horizontal.now a.vertical.now (sym (spans (goal.at.returns-then-not-spans c).After-all_in_span-2) ∙ c.if-not-spans.true))
 
 -- both parts are in span
 in_span_lem : (c : Else-not-spans) → let a = c.before.before.before.before.before.before.args in (all_in_span a.horizontal.now && all_in_span a.vertical.now) ≡ true
@@ -30,7 +30,7 @@ pub push_text-n-requires : goal.push_text-n-requires
 push_text-n-requires c =
     let start = c in
     let s = both (all_in_span start.args.horizontal.now) (all_in_span start.args.vertical.now) (in_span_lem (goal.at.push_text-n-requires c).Else-not-spans) in
-    record { in_bounds = omega arith; horizontal_nonzero = (start.requires.0, s.0); vertical_nonzero = (start.requires.1, s.1) }
+    record { in_bounds = omega arith; horizontal_nonzero = (omega arith, s.0); vertical_nonzero = (omega arith, s.1) }
 
 pub returns-then-text-n : goal.returns-then-text-n
 returns-then-text-n c =

@@ -1,6 +1,6 @@
 -- `plate_text::put_lines` meets its contract: the lines so far, of 21 bytes at most each. Assumes nothing.
 use mathlib.Core.Path.{◌≡◌}
-use Prim.Native.Nat.{◌-◌, ◌*◌, ◌≤◌}
+use Prim.Native.Nat.{◌*◌, ◌≤◌}
 use lib.ListN.{length}
 use Rattle.words.specs.Writing.{Wrote}
 use Rattle.text.specs.Lines.{lines_to}
@@ -8,7 +8,4 @@ use Rattle.plate_text.specs.Plate.{graded_at}
 use Rattle.plate_text.proofs.put_lines.Given as goal
 
 abbrev pub invariant-loop-v : goal.invariant-loop-v
-invariant-loop-v l = (l.v ≤ 360) × (l.at ≤ 21 * l.v) × (length l.text ≡ length l.initial.text) × Wrote l.initial.text 0 (lines_to (graded_at l.z6 l.row) l.v) l.text l.at
-
-abbrev pub decreases-loop-v : goal.decreases-loop-v
-decreases-loop-v l = 360 - l.v
+invariant-loop-v l = (l.at ≤ 21 * l.v) × (length l.text ≡ length l.initial.text) × Wrote l.initial.text 0 (lines_to (graded_at l.z6 l.row) l.v) l.text l.at

@@ -1,29 +1,17 @@
 -- `plate_text::put_row` meets its contract. Assumes nothing.
-use mathlib.Core.Path.{◌≡◌}
-use mathlib.Core.List.{List}
-use lib.ListN.{length, replicate, length-replicate}
-use lib.Ieee.{Float}
-use Rattle.floats.specs.Ops.{+0}
-use Rattle.plate_text.proofs.Steps.{row-refused, row-lines}
+use Rattle.text.proofs.Laws.{printed-refused}
+use Rattle.plate_text.specs.Plate.{row_text}
+use Rattle.plate_text.proofs.Asked.{row_refused, row_there}
+use Rattle.plate_text.proofs.Steps.{row_lines}
 use Rattle.plate_text.proofs.put_row.Goals as goal
 
--- the floats that are lent for the row
-abbrev lent : List Float
-lent = replicate 360 +0
+pub returns-in-Err : goal.returns-in-Err
+unfolding row_text
+returns-in-Err c =
+    let a = c.args in
+    rw (printed-refused _ _ _ (row_refused a.q a.table.now _ c.asked_row.ensures c.in-Err.r c.in-Err.is)) c.push_refusal.ensures
 
-room : length lent ≡ 360
-room = length-replicate 360 +0
-
-pub returns-in-Refused : goal.returns-in-Refused
-returns-in-Refused c =
-    let told = c.in-Refused.is in
-    let answered = c in
-    let a = answered.args in
-    rw (row-refused a.q a.table.now lent room answered.row-answer.result answered.row-answer.ensures.result_value _ told) c.push_refusal.ensures
-
-pub returns-in-FrontToBack : goal.returns-in-FrontToBack
-returns-in-FrontToBack c =
-    let told = c.in-FrontToBack.is in
-    let answered = c in
-    let a = answered.args in
-    rw (row-lines a.q a.table.now lent room answered.row-answer.result answered.row-answer.ensures.result_value _ told, ← answered.row-answer.ensures.lent_after) c.put_lines.ensures
+pub returns-in-Ok : goal.returns-in-Ok
+returns-in-Ok c =
+    let a = c.args in
+    rw (row_lines a.q a.table.now (row_there a.q a.table.now _ c.asked_row.ensures c.in-Ok.numbers c.in-Ok.is)) c.put_lines.ensures

@@ -1,29 +1,19 @@
 -- `remarks::put_row` meets its contract. Assumes nothing.
-use mathlib.Core.Path.{◌≡◌}
-use mathlib.Core.List.{List}
-use lib.ListN.{length, replicate, length-replicate}
-use lib.Ieee.{Float}
-use Rattle.floats.specs.Ops.{+0}
 use Rattle.words.proofs.Writing.{wrote_none}
-use Rattle.remarks.proofs.Steps.{row-refused, row_remarks_lem}
+use Rattle.plate_text.proofs.Asked.{row_refused, row_there}
+use Rattle.remarks.specs.Remarks.{plate_remarks}
+use Rattle.remarks.proofs.Steps.{remarked_refused, remarked_accepted}
 use Rattle.remarks.proofs.put_row.Goals as goal
 
--- the floats that are lent for the row
-abbrev lent : List Float
-lent = replicate 360 +0
+pub returns-in-Err : goal.returns-in-Err
+unfolding plate_remarks
+returns-in-Err c =
+    let a = c.args in
+    rw (remarked_refused _ _ _ (row_refused a.q a.table.now _ c.asked_row.ensures _ c.in-Err.is)) (wrote_none a.out.now 0)
 
-room : length lent ≡ 360
-room = length-replicate 360 +0
-
-pub returns-in-Refused : goal.returns-in-Refused
-returns-in-Refused c =
-    let answered = c in
-    let a = answered.args in
-    rw (row-refused a.ratio a.q a.table.now lent room answered.row-answer.result answered.row-answer.ensures.result_value c.in-Refused.field-0 c.in-Refused.is) (wrote_none a.out.now 0)
-
-pub returns-in-FrontToBack : goal.returns-in-FrontToBack
-returns-in-FrontToBack c =
-    let answered = c in
-    let a = answered.args in
-    rw (row_remarks_lem a.ratio a.q a.table.now lent room answered.row-answer.result answered.row-answer.ensures.result_value c.in-FrontToBack.field-0 c.in-FrontToBack.is, ← c.off_band.ensures)
-    c.put_remarks.ensures
+pub returns-in-Ok : goal.returns-in-Ok
+unfolding plate_remarks
+returns-in-Ok c =
+    let a = c.args in
+    let there = row_there a.q a.table.now _ c.asked_row.ensures _ c.in-Ok.is in
+    rw (remarked_accepted _ _ _ there.accepts, ← c.off_band.ensures) c.put_remarks.ensures

@@ -1,20 +1,17 @@
 -- `remarks::remarks` meets its contract. Assumes nothing.
 use Prim.Native.Nat.{ℕ, ◌≤◌}
-use mathlib.Core.Path.{◌≡◌, refl, sym, subst, ◌∙◌}
+use mathlib.Core.Path.{◌≡◌, refl, sym, subst}
 use mathlib.Core.List.{List}
 use native.Mathlib.Omega.{arith}
 use borrow.Author.Tests.{lt-ltb}
 use lib.ListN.{length, take}
-use Rattle.model.specs.Table.{table_size}
-use Rattle.model.proofs.BlankTable.{blank-length}
 use Rattle.words.specs.Writing.{Wrote}
 use Rattle.words.proofs.Writing.{wrote_none, within}
-use Rattle.request.specs.Request.{request_of, request_answer}
+use Rattle.plate_text.proofs.Asked.{request_refused, request_there}
 use Rattle.remarks.specs.Remarks.{remarks_of, remarks_in}
 use Rattle.remarks.proofs.Lengths.{remarks_short}
-use Rattle.remarks.proofs.Steps.{request-refused, request-ready, roomy}
+use Rattle.remarks.proofs.Steps.{remarked_refused, remarked_accepted, roomy}
 use Rattle.remarks.proofs.remarks.Goals as goal
-use Rattle.remarks.proofs.remarks.Goals.{After-prepare-prepared}
 
 -- what was written, with its length, in a buffer that has room
 with_length : {l m : List ℕ} {r : ℕ} (input : List ℕ) → Wrote l 0 (remarks_of input) m r → 256 ≤ length l → length m ≡ length l
@@ -22,28 +19,28 @@ with_length : {l m : List ℕ} {r : ℕ} (input : List ℕ) → Wrote l 0 (remar
 with_length {l} {m} {r} input w room kept =
     (subst (λ (s : List ℕ). Wrote l 0 s m r) (sym (roomy (length l) input room)) w, within w (omega (arith, remarks_short input)))
 
--- the request of a table of its size
-answered : (c : After-prepare-prepared) → request_answer c.prepare-prepared.result ≡ request_of c.before.before.before.before.before.before.args.input.now table_size
-answered c = c.prepare-prepared.ensures.result_value ∙ rw (c.before.before.blank_table-table.ensures, blank-length)
-
 pub returns-then-out-lt256 : goal.returns-then-out-lt256
 unfolding remarks_in
 returns-then-out-lt256 c =
     let out = c.args.out.now in
     rw (lt-ltb (length out) 256 c.if-out-lt256.true) (record { text = wrote_none out 0; within = (omega arith, refl) })
 
-pub returns-in-Refused : goal.returns-in-Refused
-returns-in-Refused c =
-    let prepared = c in
-    let a = prepared.args in
-    let both = with_length a.input.now (rw (request-refused a.input.now prepared.prepare-prepared.result (answered (goal.at.returns-in-Refused c).After-prepare-prepared) c.in-Refused.field-0 c.in-Refused.is) (wrote_none a.out.now 0)) (omega arith) refl in record { text = both.0; within = both.1 }
+pub returns-in-Err : goal.returns-in-Err
+unfolding remarks_of
+returns-in-Err c =
+    let a = c.args in
+    let answered = rw c.blank_table-table.ensures at c.prepare.ensures.result_value in
+    let none = request_refused a.input.now c.prepare.result answered _ c.in-Err.is in
+    let both = with_length a.input.now (rw (remarked_refused _ _ _ none) (wrote_none a.out.now 0)) (omega arith) refl in
+    record { text = both.0; within = both.1 }
 
-pub returns-in-Ready : goal.returns-in-Ready
-returns-in-Ready c =
-    let put = c in
-    let ratio = c in
-    let prepared = c in
-    let input = prepared.args.input.now in
+pub returns-in-Ok : goal.returns-in-Ok
+unfolding remarks_of
+returns-in-Ok c =
+    let input = c.args.input.now in
+    let answered = rw c.blank_table-table.ensures at c.prepare.ensures.result_value in
+    let there = request_there input c.prepare.result answered _ c.in-Ok.is in
     let both = with_length input
-    (rw (request-ready input prepared.prepare-prepared.result (answered (goal.at.returns-in-Ready c).After-prepare-prepared) c.in-Ready.is, ← ratio.by_ratio.ensures, ← prepared.blank_table-table.ensures, ← prepared.prepare-prepared.ensures.table_after) put.put_row.ensures)
-    (omega arith) (omega arith) in record { text = both.0; within = both.1 }
+    (rw (remarked_accepted _ _ _ there, ← c.by_ratio.ensures, ← c.blank_table-table.ensures, ← c.prepare.ensures.table_after) c.put_row.ensures)
+    (omega arith) (omega arith) in
+    record { text = both.0; within = both.1 }

@@ -7,6 +7,6 @@ use Rattle.rhombic_crossed.specs.Complex.{times, power_of}
 use Rattle.rhombic_crossed.specs.Rhombic.{gain7}
 use Rattle.rhombic_crossed.specs.RhombicParts.{legs_of, current_of, horizontal_image, vertical_image, rhombic_gain}
 
-pub rhombic-whole : (k : Constants) (w : Factors) (d : Direction) → rhombic_gain k w d ≡ gain7 k w d
+pub rhombic_whole : (k : Constants) (w : Factors) (d : Direction) → rhombic_gain k w d ≡ gain7 k w d
 unfolding rhombic_gain legs_of current_of horizontal_image vertical_image times power_of gain7
-rhombic-whole k w d = refl
+rhombic_whole k w d = refl

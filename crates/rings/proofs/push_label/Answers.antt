@@ -7,21 +7,9 @@ use Rattle.labels.proofs.Put.{of, more, next-to}
 use Rattle.rings.specs.Rings.{label_text}
 use Rattle.rings.proofs.push_label.Goals as goal
 
-pub shape_of-out : goal.shape_of-out
-shape_of-out c =
-    let p3 = c in
-    let p2 = p3 in
-    let p1 = p2 in
-    let p0 = p1 in
-    p3.push_bytes.auto.out ∙ p2.push_dbi-end.auto.out ∙ p1.push_bytes-number_at.auto.out ∙ p0.push_whole-close_at.auto.out
-
 pub returns : goal.returns
 unfolding label_text quoted
 returns c =
-    let p3 = c in
-    let p2 = p3 in
-    let p1 = p2 in
-    let p0 = p1 in
-    let w1 = next-to p0.push_whole-close_at.ensures (of p1.push_bytes-number_at.ensures) (omega arith) in
-    let w2 = next-to w1 p2.push_dbi-end.ensures (omega arith) in
-    rw (← p0.label_height-height.ensures) (more 50 (next-to w2 (of p3.push_bytes.ensures) (omega arith)) (lit≤ tt))
+    let w1 = next-to c.push_whole-close_at.ensures (of c.push_bytes-number_at.ensures) (omega arith) in
+    let w2 = next-to w1 c.push_dbi-end.ensures (omega arith) in
+    rw (← c.label_height-height.ensures) (more 50 (next-to w2 (of c.push_bytes.ensures) (omega arith)) (lit≤ tt))

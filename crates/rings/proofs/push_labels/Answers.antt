@@ -7,27 +7,9 @@ use Rattle.labels.proofs.Put.{of, more, next-to}
 use Rattle.rings.specs.Rings.{labels_text}
 use Rattle.rings.proofs.push_labels.Goals as goal
 
-pub push_bottom_label-labels_at-requires : goal.push_bottom_label-labels_at-requires
-push_bottom_label-labels_at-requires c = (omega arith, omega arith)
-
-pub push_upper_labels-end-requires : goal.push_upper_labels-end-requires
-push_upper_labels-end-requires c = (omega arith, omega arith)
-
-pub shape_of-out : goal.shape_of-out
-shape_of-out c =
-    let p3 = c in
-    let p2 = p3 in
-    let p1 = p2 in
-    let p0 = p1 in
-    p3.push_bytes.auto.out ∙ p2.push_upper_labels-end.auto.out ∙ p1.push_bottom_label-labels_at.auto.out ∙ p0.push_bytes-bottom_at.auto.out
-
 pub returns : goal.returns
 unfolding labels_text quoted
 returns c =
-    let p3 = c in
-    let p2 = p3 in
-    let p1 = p2 in
-    let p0 = p1 in
-    let w1 = next-to (of p0.push_bytes-bottom_at.ensures) p1.push_bottom_label-labels_at.ensures (omega arith) in
-    let w2 = next-to w1 p2.push_upper_labels-end.ensures (omega arith) in
-    more 510 (next-to w2 (of p3.push_bytes.ensures) (omega arith)) (lit≤ tt)
+    let w1 = next-to (of c.push_bytes-bottom_at.ensures) c.push_bottom_label-labels_at.ensures (omega arith) in
+    let w2 = next-to w1 c.push_upper_labels-end.ensures (omega arith) in
+    more 510 (next-to w2 (of c.push_bytes.ensures) (omega arith)) (lit≤ tt)

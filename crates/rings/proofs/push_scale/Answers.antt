@@ -7,24 +7,9 @@ use Rattle.labels.proofs.Put.{of, more, next-to}
 use Rattle.rings.specs.Rings.{scale_text}
 use Rattle.rings.proofs.push_scale.Goals as goal
 
-pub push_rings-end-requires : goal.push_rings-end-requires
-push_rings-end-requires c = (omega arith, omega arith)
-
-pub shape_of-out : goal.shape_of-out
-shape_of-out c =
-    let p3 = c in
-    let p2 = p3 in
-    let p1 = p2 in
-    let p0 = p1 in
-    p3.push_bytes.auto.out ∙ p2.push_rings-end.auto.out ∙ p1.push_bytes-rings_at.auto.out ∙ p0.push_bytes-axes_at.auto.out
-
 pub returns : goal.returns
 unfolding scale_text quoted
 returns c =
-    let p3 = c in
-    let p2 = p3 in
-    let p1 = p2 in
-    let p0 = p1 in
-    let w1 = next-to (of p0.push_bytes-axes_at.ensures) (of p1.push_bytes-rings_at.ensures) (omega arith) in
-    let w2 = next-to w1 p2.push_rings-end.ensures (omega arith) in
-    more 500 (next-to w2 (of p3.push_bytes.ensures) (omega arith)) (lit≤ tt)
+    let w1 = next-to (of c.push_bytes-axes_at.ensures) (of c.push_bytes-rings_at.ensures) (omega arith) in
+    let w2 = next-to w1 c.push_rings-end.ensures (omega arith) in
+    more 500 (next-to w2 (of c.push_bytes.ensures) (omega arith)) (lit≤ tt)

@@ -14,30 +14,19 @@ pub loop-k-init : goal.loop-k-init
 unfolding labels_to
 loop-k-init c =
     let a = c.args in
-    (lit≤ tt, omega arith, refl, upto 0 (wrote_none a.out.now a.at) (lit≤ tt))
-
-pub push_label-end-requires : goal.push_label-end-requires
-push_label-end-requires c = (omega arith, c.radius.ensures.1)
+    (lit≤ tt, refl, upto 0 (wrote_none a.out.now a.at) (lit≤ tt))
 
 pub loop-k-preserved : goal.loop-k-preserved
 unfolding labels_to
 loop-k-preserved c =
-    let pushed = c in
-    let radius = pushed in
-    let head = radius in
-    let label = rw (radius.radius.ensures.0, head.bottom-low.ensures.0, add-one) at pushed.push_label-end.ensures in (
+    let label = rw (c.radius.ensures.0, c.bottom-low.ensures.0, add-one) at c.push_label-end.ensures in (
       omega arith,
-      omega arith,
-      pushed.push_label-end.auto.out ∙ head.loop-k.invariant.2,
-      rw add-one (more _ (next-to head.loop-k.invariant.3 label (omega arith)) (omega arith)),
+      c.push_label-end.auto.out ∙ c.loop-k.invariant.1,
+      rw add-one (more _ (next-to c.loop-k.invariant.2 label (omega arith)) (omega arith)),
     )
-
-pub shape_of-out : goal.shape_of-out
-shape_of-out c = c.loop-k.invariant.2
 
 pub returns : goal.returns
 returns c =
-    let start = c in
-    let e : c.loop-k.k ≡ span_of start.args.peak / 1000 = omega arith in
-    let all = more 300 c.loop-k.invariant.3 (omega arith) in
+    let e : c.loop-k.k ≡ span_of c.args.peak / 1000 = omega arith in
+    let all = more 300 c.loop-k.invariant.2 (omega arith) in
     rw e at all

@@ -1,5 +1,5 @@
 -- `rings::push_upper_labels` meets its contract: the labels so far, of 50 bytes at most each. Assumes nothing.
-use Prim.Native.Nat.{◌*◌, ◌-◌, ◌≤◌}
+use Prim.Native.Nat.{◌*◌, ◌≤◌}
 use mathlib.Core.Path.{◌≡◌}
 use lib.ListN.{length}
 use Rattle.labels.specs.Writing.{Put}
@@ -8,7 +8,4 @@ use Rattle.rings.proofs.push_upper_labels.Given as goal
 
 abbrev pub invariant-loop-k : goal.invariant-loop-k
 invariant-loop-k l =
-    (l.k ≤ 6) × (l.k ≤ l.rings) × (length l.out ≡ length l.initial.out) × Put (50 * l.k) l.initial.out l.at (labels_to l.inner l.peak l.k) l.out l.end
-
-abbrev pub decreases-loop-k : goal.decreases-loop-k
-decreases-loop-k l = l.rings - l.k
+    (l.k ≤ 6) × (length l.out ≡ length l.initial.out) × Put (50 * l.k) l.initial.out l.at (labels_to l.inner l.peak l.k) l.out l.end

@@ -3,8 +3,8 @@ use mathlib.Core.Path.{◌≡◌, sym, ap, ◌∙◌, subst}
 use Prim.Native.Nat.{ℕ, suc, ◌+◌, ◌-◌, ◌*◌, ◌/◌, ◌%◌, ◌^◌, ◌≤◌, ◌<◌}
 use native.Mathlib.Nat.{le_trans, le_of_eq, lt_of_lt_of_le, lt_of_le_of_lt, one-mul, mod-eq_of_lt, div-lt_iff_lt-mul}
 use native.Mathlib.Omega.{arith}
-use lib.Dec.{lit<, lit≤}
-use lib.Count.{count_leading_zeros, leading_le, leading_length}
+use lib.Dec.{lit<}
+use lib.Count.{count_leading_zeros, leading_length}
 use lib.Pow.{pow-add, pow_mono, pow_pos}
 use Rattle.root.proofs.Newton.{newton_above}
 use Rattle.root.proofs.isqrt.Goals as goal
@@ -33,9 +33,6 @@ quotient n h = (div-lt_iff_lt-mul (pow_pos (half n))).1 (below n h)
 -- `1 << half` is 2 ^ half
 shifted : (n : ℕ) → 1 * 2 ^ half n % 2 ^ 64 ≡ 2 ^ half n
 shifted n = ap (λ (x : ℕ). x % 2 ^ 64) (one-mul (2 ^ half n)) ∙ mod-eq_of_lt (lt_of_le_of_lt (half_le n) (lit< tt))
-
-pub overflow_sub-half : goal.overflow_sub-half
-overflow_sub-half c = le_trans (leading_le 64 c.args.n) (lit≤ tt)
 
 pub overflow_add-half : goal.overflow_add-half
 overflow_add-half c = let n = c.args.n in omega (arith, shifted n, half_le n, quotient n c.ranges.n.fits)

@@ -26,9 +26,6 @@ small c =
     let s = c.before.before in
     lt_of_le_of_lt (le_of_eq (the-root c)) (root-small s.args.m s.args.e s.requires.0 s.requires.1 s.requires.2)
 
-pub overflow_add-guess : goal.overflow_add-guess
-overflow_add-guess c = omega (arith, quotient c)
-
 pub isqrt_from-s-requires : goal.isqrt_from-s-requires
 isqrt_from-s-requires c =
     let s = c.before.args in

@@ -10,9 +10,6 @@ pub sqrt_positive-requires : goal.sqrt_positive-requires
 unfolding of_bits div
 sqrt_positive-requires c = holds (positive_test c.args.x ∙ (λ i. c.if-x.true i && c.if-x-2.true i))
 
-pub returns-then-x-2 : goal.returns-then-x-2
-returns-then-x-2 c = c.sqrt_positive.ensures
-
 pub returns-then-x : goal.returns-then-x
 unfolding of_bits div
 returns-then-x c = sqrt_of_infinity c.args.x c.if-x.true c.if-x-2.false

@@ -1,7 +1,6 @@
 -- `sqrt_positive`. The parts of x are those of its square, and the bits of the root are read as the root.
 use mathlib.Core.Path.{◌≡◌, sym, ap, ◌∙◌, subst}
 use Prim.Native.Nat.{ℕ}
-use native.Mathlib.Omega.{arith}
 use mathlib.Core.Bool.{not}
 use lib.Dec.{T}
 use lib.Ieee.{binary32, fits, nan_bits, to_bits, of_bits}
@@ -19,15 +18,6 @@ bits c =
     let s = c.before.before.before in
     let p = c.before.before.parts_of-parts in
     c.root_bits.ensures s.args.x (held s) s.requires (square-is s.args.x p.result.significand p.result.exponent p.ensures.whole)
-
-pub parts_of-parts-requires : goal.parts_of-parts-requires
-parts_of-parts-requires c = c.requires
-
-pub overflow_add-parts : goal.overflow_add-parts
-overflow_add-parts c = record { fits = omega (arith, c.before.parts_of-parts.ensures.few) }
-
-pub root_bits-requires : goal.root_bits-requires
-root_bits-requires c = let p = c.before.parts_of-parts.ensures in (p.from, p.below, omega arith, omega (arith, p.few))
 
 pub float_from_bits-result : goal.float_from_bits-result
 float_from_bits-result c =

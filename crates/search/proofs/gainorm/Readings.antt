@@ -1,9 +1,7 @@
 -- How often the search reads the gain, how long a plateau can get, and which gain stays.
-use Rattle.std.proofs.Common.{◌≡◌, ◌+◌, ◌^◌, ◌<◌, ◌≤◌, Bool, true, false, cond, ℤ, pos, negsuc, refl, inl, inr, arith}
-use lib.Signed.{mag}
+use Rattle.std.proofs.Common.{◌≡◌, ◌+◌, ◌≤◌, Bool, true, false, cond, refl, inl, inr, arith}
 use lib.Ieee.{Float, lt}
 use Rattle.floats.specs.Ops.{◌⊕◌}
-use Rattle.floats.specs.Rounding.{natural}
 use Rattle.search.specs.Search.{tallied, azmax_read}
 use Rattle.search.specs.declared.gainorm.Azimuths.{Azimuths}
 use Rattle.search.proofs.Strict.{lt-le, le_of_not_lt}
@@ -30,8 +28,3 @@ azmax_reads s vm z9 =
     (λ e. record { counted = refl; told = refl; next = refl; plateau = omega arith; kept = λ p q. inr (refl, lt-le z9 s.rmax e) })
     (λ e. record { counted = refl; told = refl; next = refl; plateau = omega arith; kept = λ p q. inl (refl, lt-le s.rmax z9 e) })
     (λ e. record { counted = refl; told = refl; next = refl; plateau = omega arith; kept = λ p q. inl (refl, le_of_not_lt z9 s.rmax q p e) })
-
--- a whole number of an `i32`
-pub natural-below : (z : ℤ) → mag z < 2 ^ 31 → natural z < 2 ^ 31
-natural-below (pos n) h = h
-natural-below (negsuc n) h = omega arith

@@ -5,16 +5,12 @@ use native.Mathlib.Omega.{arith}
 use lib.Ieee.{Float, nan, div, of_bits}
 use Rattle.numeric.specs.Rounding.{truncated}
 use Rattle.sine.specs.Sine.{in_domain, quarter, past, cosine_at, cosine}
-use Rattle.numeric.proofs.Comparisons.{holds}
 use Rattle.sine.proofs.Terms.{past-le, quarter-le}
 use Rattle.sine.proofs.cos.Goals as goal
 use Rattle.sine.proofs.cos.Goals.{Then-in_domain}
 
 inside : (c : Then-in_domain) → in_domain c.before.before.args.a ≡ true
 inside c = sym c.before.in_domain.ensures ∙ c.if-in_domain.true
-
-pub reduced-requires : goal.reduced-requires
-reduced-requires c = holds (inside c)
 
 pub cosine_at-requires : goal.cosine_at-requires
 cosine_at-requires c =

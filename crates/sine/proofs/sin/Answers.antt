@@ -6,16 +6,12 @@ use lib.Ieee.{Float, nan, neg, div, of_bits}
 use Rattle.numeric.specs.Float.{sign_bit}
 use Rattle.numeric.specs.Rounding.{truncated}
 use Rattle.sine.specs.Sine.{in_domain, quarter, past, sine_at, sine}
-use Rattle.numeric.proofs.Comparisons.{holds}
 use Rattle.sine.proofs.Terms.{past-le, quarter-le}
 use Rattle.sine.proofs.sin.Goals as goal
 use Rattle.sine.proofs.sin.Goals.{Then-in_domain}
 
 inside : (c : Then-in_domain) → in_domain c.before.before.args.a ≡ true
 inside c = sym c.before.in_domain.ensures ∙ c.if-in_domain.true
-
-pub reduced-requires : goal.reduced-requires
-reduced-requires c = holds (inside c)
 
 pub sine_at-requires : goal.sine_at-requires
 sine_at-requires c =

@@ -11,12 +11,6 @@ use Rattle.sine.proofs.sums.Goals.{After-next_term-p, Start, Then-left-eq1}
 small : (s : Start) → (sums s.args.t s.args.start s.args.n s.args.first).0 + (sums s.args.t s.args.start s.args.n s.args.first).1 ≤ 9 * 2 ^ 31
 small s = sums-small s.args.t s.args.start s.args.n s.args.first s.requires
 
-pub loop-left-init : goal.loop-left-init
-loop-left-init c = (c.requires, omega arith, omega arith)
-
-pub next_term-q-requires : goal.next_term-q-requires
-next_term-q-requires c = let s = c.before.loop-left.invariant.0 in (s.angle, omega (arith, s.first), s.divisor, omega (arith, s.terms))
-
 pub overflow_add-added : goal.overflow_add-added
 overflow_add-added c =
     let a = c.before.before in
@@ -29,17 +23,11 @@ overflow_add-taken c =
     let e = sums-two a.before.args.t a.loop-left.j a.loop-left.left a.loop-left.p c.before.loop-left-test.true in
     record { fits = omega (arith, small a.before, c.next_term-q.ensures, e.1, a.loop-left.invariant.2) }
 
-pub overflow_add-j : goal.overflow_add-j
-overflow_add-j c = record { fits = omega (arith, c.before.before.loop-left.invariant.0.terms) }
-
 pub next_term-p-requires : goal.next_term-p-requires
 next_term-p-requires c =
     let a = c.before.before in
     let s = a.loop-left.invariant.0 in
     (s.angle, rw c.next_term-q.ensures (next_le a.before.args.t a.loop-left.j a.loop-left.p s.angle s.divisor s.first), omega arith, omega (arith, s.terms))
-
-pub overflow_add-j-in-loop-left : goal.overflow_add-j-in-loop-left
-overflow_add-j-in-loop-left c = record { fits = omega (arith, c.before.before.before.loop-left.invariant.0.terms) }
 
 -- what the second call gives
 second : (c : After-next_term-p) → let a = c.before.before.before in c.next_term-p.result ≡ next_term a.before.args.t (a.loop-left.j + 2) (next_term a.before.args.t a.loop-left.j a.loop-left.p)
@@ -62,9 +50,6 @@ one_left c = let a = c.before.before in sums-one a.before.args.t a.loop-left.j a
 
 pub overflow_add-added-2 : goal.overflow_add-added-2
 overflow_add-added-2 c = let a = c.before in record { fits = omega (arith, small a.before, sums-from a.before.args.t a.loop-left.j a.loop-left.left a.loop-left.p, a.loop-left.invariant.1) }
-
-pub next_term-taken-requires : goal.next_term-taken-requires
-next_term-taken-requires c = let s = c.before.before.loop-left.invariant.0 in (s.angle, omega (arith, s.first), s.divisor, omega (arith, s.terms))
 
 pub overflow_add-taken-then-left-eq1 : goal.overflow_add-taken-then-left-eq1
 overflow_add-taken-then-left-eq1 c = let a = c.before.before.before in record { fits = omega (arith, small a.before, c.next_term-taken.ensures, (one_left c.before).1, a.loop-left.invariant.2) }

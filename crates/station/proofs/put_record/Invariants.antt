@@ -1,6 +1,6 @@
 -- `station::put_record` meets its contract: the words so far are written, but for the bits that are carried. Assumes nothing.
 use mathlib.Core.Path.{◌≡◌}
-use Prim.Native.Nat.{ℕ, ◌-◌, ◌≤◌}
+use Prim.Native.Nat.{ℕ}
 use mathlib.Core.List.{List}
 use Rattle.model.specs.Limits.{slot}
 use Rattle.station.specs.declared.Station.{Station}
@@ -14,7 +14,4 @@ abbrev pub WrittenOf : ℕ → Station → List ℕ → ℕ → ℕ → Type 0
 WrittenOf edition s out carry k = Written (width_of edition) (header_of edition s.mode (slot s.parm 1)) (words_of s) out carry k
 
 abbrev pub invariant-loop-k : goal.invariant-loop-k
-invariant-loop-k l = (l.k ≤ 56) × (l.header ≡ width_of l.edition) × WrittenOf l.edition l.s l.out l.carry l.k
-
-abbrev pub decreases-loop-k : goal.decreases-loop-k
-decreases-loop-k l = 56 - l.k
+invariant-loop-k l = (l.header ≡ width_of l.edition) × WrittenOf l.edition l.s l.out l.carry l.k

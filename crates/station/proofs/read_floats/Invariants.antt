@@ -2,7 +2,6 @@
 use mathlib.Core.Path.{◌≡◌}
 use mathlib.Core.Bool.{true}
 use mathlib.Core.List.{List}
-use Prim.Native.Nat.{◌-◌, ◌≤◌}
 use lib.ListN.{replicate}
 use lib.Seq.{paste}
 use lib.Ieee.{Float, binary32, of_bits}
@@ -14,7 +13,7 @@ abbrev pub blanks : List Float
 blanks = replicate 56 (of_bits binary32 0)
 
 abbrev pub invariant-loop-k : goal.invariant-loop-k
-invariant-loop-k l = (l.k ≤ 56) × (finite_to (floats_in l.header l.bytes) l.k ≡ true) × (l.station ≡ station_of l.mode (paste blanks 0 (floats_in l.header l.bytes) l.k))
-
-abbrev pub decreases-loop-k : goal.decreases-loop-k
-decreases-loop-k l = 56 - l.k
+invariant-loop-k l = record {
+  finite : finite_to (floats_in l.header l.bytes) l.k ≡ true;
+  station : l.station ≡ station_of l.mode (paste blanks 0 (floats_in l.header l.bytes) l.k);
+}

@@ -5,7 +5,4 @@ use Rattle.trig.specs.Trig.{sines_to, cosines_to}
 use Rattle.trig.proofs.trigfun.Given as goal
 
 abbrev pub invariant-loop-z : goal.invariant-loop-z
-invariant-loop-z l = (l.a ≡ sines_to l.z) × (l.b ≡ cosines_to l.z) × (l.z ≤ 91)
-
-abbrev pub decreases-loop-z : goal.decreases-loop-z
-decreases-loop-z l = 91 - l.z
+invariant-loop-z l = (l.a ≡ sines_to l.z) × (l.b ≡ cosines_to l.z)

@@ -1,12 +1,15 @@
--- `antenna::sum::sum_of` sums the whole of a short table, and the first floats of another.
-use Rattle.std.proofs.Common.{◌∙◌, arith}
+-- `antenna::sum::sum_of` adds one float a turn.
+use Rattle.std.proofs.Common.{take, add-one, arith}
+use Rattle.std.proofs.lemmas.Grind.{common_steps}
+use Rattle.std.proofs.lemmas.List.{take_min}
+use lib.Seq.{take-length}
 use Rattle.antenna.specs.TableSum.{table_sum}
-use Rattle.antenna.proofs.TableSum.{sum-short}
+use Rattle.antenna.proofs.TableSum.{sum-next}
 use Rattle.antenna.proofs.sum.sum_of.Goals as goal
 
-pub returns-then-table-lt-SIZE : goal.returns-then-table-lt-SIZE
-returns-then-table-lt-SIZE c = c.bits_total.ensures ∙ sum-short c.args.table.now (omega arith)
+pub loop-x-preserved : goal.loop-x-preserved
+loop-x-preserved c = rw (add-one, c.bits_of-sum.ensures) (sum-next (take c.min.result c.args.table.now) c.loop-x.x-index c.loop-x.sum (omega arith) c.loop-x.invariant)
 
 pub returns : goal.returns
 unfolding table_sum
-returns c = c.bits_total-2.ensures
+returns c = grind (arith, common_steps, take_min, take-length)

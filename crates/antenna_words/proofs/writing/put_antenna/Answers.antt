@@ -12,7 +12,7 @@ use Rattle.antenna.specs.declared.record.Antenna.{Antenna}
 use Rattle.antenna_words.specs.Fields.{joined, flag, constant_floats, head_fields, element_fields, trig_fields, ground_fields, peak_fields, antenna_fields, antenna_words}
 use Rattle.antenna_words.specs.Held.{Held}
 use Rattle.antenna_words.specs.Reading.{antenna_in}
-use Rattle.antenna_words.proofs.Lengths.{trig-length, ground-length, elements-length}
+use Rattle.antenna_words.proofs.Lengths.{trig_length, ground_length, elements_length}
 use Rattle.antenna_words.proofs.RoundTrip.{antenna_in_words}
 use Rattle.antenna_words.proofs.writing.put_antenna.Goals as goal
 
@@ -60,9 +60,9 @@ returns c =
       ground = third.put_tables.ensures.held_trig.1;
       peak = fourth.put_peak.ensures.f32s;
     } in
-    let t : length (tables a) ≡ 728 = length-append (joined (trig_fields a.model.trig)) (joined (ground_fields a.model.ground)) ∙ omega (arith, trig-length a.model.trig held.trig, ground-length a.model.ground held.ground) in
+    let t : length (tables a) ≡ 728 = length-append (joined (trig_fields a.model.trig)) (joined (ground_fields a.model.ground)) ∙ omega (arith, trig_length a.model.trig held.trig, ground_length a.model.ground held.ground) in
     let p : Wrote out 0 (head a) first.put_head.new.out 18 = record { bytes = first.put_head.ensures.out_after; after = refl } in
-    let q : Wrote first.put_head.new.out 18 (elements a) second.put_elements.new.out 266 = record { bytes = second.put_elements.ensures.out_after; after = omega (arith, elements-length a.model.elements held.elements) } in
+    let q : Wrote first.put_head.new.out 18 (elements a) second.put_elements.new.out 266 = record { bytes = second.put_elements.ensures.out_after; after = omega (arith, elements_length a.model.elements held.elements) } in
     let r : Wrote second.put_elements.new.out 266 (tables a) third.put_tables.new.out 994 = record { bytes = third.put_tables.ensures.out_after; after = omega (arith, t) } in
     let s : Wrote third.put_tables.new.out 994 (peak a) fourth.put_peak.new.out 997 = record { bytes = fourth.put_peak.ensures.out_after; after = refl } in
     let k : length first.put_head.new.out ≡ length out = first.put_head.auto.out in

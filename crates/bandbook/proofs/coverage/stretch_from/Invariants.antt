@@ -1,12 +1,9 @@
 -- `stretch_from`: of the rows passed, as many cover each kHz up to the end.
-use Prim.Native.Nat.{◌-◌, ◌≤◌, ◌<◌}
+use Prim.Native.Nat.{◌≤◌, ◌<◌}
 use Rattle.bandbook.specs.Rows.{rows_in}
 use Rattle.bandbook.proofs.Steady.{Passed}
 use Rattle.bandbook.proofs.coverage.stretch_from.Given as goal
 
 abbrev pub invariant-loop-i : goal.invariant-loop-i
 invariant-loop-i l =
-    (l.i ≤ l.n) × (l.rows ≤ l.i) × (l.khz < l.end) × (l.end ≤ 30000) × Passed (rows_in l.words) l.khz l.i l.rows l.end
-
-abbrev pub decreases-loop-i : goal.decreases-loop-i
-decreases-loop-i l = l.n - l.i
+    (l.rows ≤ l.i) × (l.khz < l.end) × (l.end ≤ 30000) × Passed (rows_in l.words) l.khz l.i l.rows l.end

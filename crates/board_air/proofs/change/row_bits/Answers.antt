@@ -11,4 +11,4 @@ pub returns : goal.returns
 returns c =
     let start = c in
     let row = start.args.row.now in
-    c.put_row.ensures ∙ laid-whole (replicate {A = ℕ} 360 0) (map (to_bits binary32) row) (length-map row (to_bits binary32) ∙ start.requires)
+    c.put_bits.ensures ∙ laid-whole (replicate {A = ℕ} 360 0) (map (to_bits binary32) row) (length-map row (to_bits binary32) ∙ start.requires)

@@ -11,20 +11,18 @@ use Rattle.board_air.proofs.places.slot_of.Goals.{then-air-k, else-air-k}
 
 pub loop-k-init : goal.loop-k-init
 unfolding slot_of stations_to
-loop-k-init c = (refl, omega arith)
+loop-k-init c = refl
 
 pub loop-k-preserved : goal.loop-k-preserved
 unfolding slot_of stations_to station_at
 loop-k-preserved c =
-    let head = c in (
-      elim c.if-air-k.branch [
-        | then-air-k w ↦ rw (add-one, eq-eqb _ _ w.if-air-k.true) (w.slot-is ∙ sym (stations_length head.args.air.now head.loop-k.k))
-        | else-air-k w ↦ rw (add-one, ne_eqb _ _ w.if-air-k.false) (w.slot-is ∙ head.loop-k.invariant.0)
-      ],
-      omega arith,
-    )
+    let head = c in
+    elim c.if-air-k.branch [
+      | then-air-k w ↦ rw (add-one, eq-eqb _ _ w.if-air-k.true) (w.slot-is ∙ sym (stations_length head.args.air.now head.loop-k.k))
+      | else-air-k w ↦ rw (add-one, ne_eqb _ _ w.if-air-k.false) (w.slot-is ∙ head.loop-k.invariant)
+    ]
 
 pub returns : goal.returns
 returns c =
     let e : c.loop-k.k ≡ c.args.n = omega arith in
-    rw e at c.loop-k.invariant.0
+    rw e at c.loop-k.invariant

@@ -13,13 +13,13 @@ use Rattle.board_anew.proofs.kept.afresh.Goals as goal
 
 pub loop-k-init : goal.loop-k-init
 unfolding stations_to
-loop-k-init c = (c.put_nobody.ensures, omega arith)
+loop-k-init c = c.put_nobody.ensures
 
 pub slice_bounds-raise-end : goal.slice_bounds-raise-end
-slice_bounds-raise-end c = sym (ap length c.loop-k.invariant.0 ∙ kept-length _)
+slice_bounds-raise-end c = sym (ap length c.loop-k.invariant ∙ kept-length _)
 
 pub raise-requires : goal.raise-requires
-raise-requires c = (ap length c.loop-k.invariant.0 ∙ kept-length _, simp (length-take, length-drop) (omega arith))
+raise-requires c = (ap length c.loop-k.invariant ∙ kept-length _, simp (length-take, length-drop) (omega arith))
 
 pub loop-k-preserved : goal.loop-k-preserved
 loop-k-preserved c =
@@ -29,16 +29,14 @@ loop-k-preserved c =
     let k = c.loop-k.k in
     let id = get_or air (1 + 361 * k) 0 in
     let from = 2 + 361 * k in
-    let all : 360 + from - from ≡ 360 = omega arith in (
-      rw add-one
-          (c.raise.ensures
-          ∙ ap (λ (kept : List ℕ). kept_by (raised id (take (360 + from - from) (drop from air)) kept)) c.loop-k.invariant.0
-          ∙ ap (λ (n : ℕ). kept_by (raised id (take n (drop from air)) (kept_of (stations_to air k)))) all
-          ∙ kept-place air (λ i. (c.type_inv.air i).fits) pre.0 start.args.n pre.1 pre.2 k (omega arith)),
-      omega arith,
-    )
+    let all : 360 + from - from ≡ 360 = omega arith in
+    rw add-one
+    (c.raise.ensures
+    ∙ ap (λ (kept : List ℕ). kept_by (raised id (take (360 + from - from) (drop from air)) kept)) c.loop-k.invariant
+    ∙ ap (λ (n : ℕ). kept_by (raised id (take n (drop from air)) (kept_of (stations_to air k)))) all
+    ∙ kept-place air (λ i. (c.type_inv.air i).fits) pre.0 start.args.n pre.1 pre.2 k (omega arith))
 
 pub returns : goal.returns
 returns c =
     let e : c.loop-k.k ≡ c.args.n = omega arith in
-    rw e at c.loop-k.invariant.0
+    rw e at c.loop-k.invariant

@@ -16,13 +16,13 @@ vacated-left-requires c = c.requires.3
 
 pub loop-k-init : goal.loop-k-init
 unfolding stations_to
-loop-k-init c = (c.vacated-left.ensures, omega arith)
+loop-k-init c = c.vacated-left.ensures
 
 pub slice_bounds-raise_vacated-end : goal.slice_bounds-raise_vacated-end
-slice_bounds-raise_vacated-end c = sym (ap length c.loop-k.invariant.0 ∙ by_length _)
+slice_bounds-raise_vacated-end c = sym (ap length c.loop-k.invariant ∙ by_length _)
 
 pub raise_vacated-requires : goal.raise_vacated-requires
-raise_vacated-requires c = (ap length c.loop-k.invariant.0 ∙ by_length _, c.requires.3, simp (length-take, length-drop) (omega arith))
+raise_vacated-requires c = (ap length c.loop-k.invariant ∙ by_length _, c.requires.3, simp (length-take, length-drop) (omega arith))
 
 pub loop-k-preserved : goal.loop-k-preserved
 loop-k-preserved c =
@@ -36,16 +36,14 @@ loop-k-preserved c =
     let k = head.k in
     let id = get_or air (1 + 361 * k) 0 in
     let from = 2 + 361 * k in
-    let all : 360 + from - from ≡ 360 = omega arith in (
-      rw add-one
-          (c.raise_vacated.ensures
-          ∙ ap (λ (left : List ℕ). kept_by (raised_vacated gone kept id (take (360 + from - from) (drop from air)) left)) head.invariant.0
-          ∙ ap (λ (m : ℕ). kept_by (raised_vacated gone kept id (take m (drop from air)) (kept_by (renewed gone (stations_to air k) kept)))) all
-          ∙ renewed-place air (λ i. (c.type_inv.air i).fits) pre.0 a.n pre.1 pre.2 gone kept k (omega arith)),
-      omega arith,
-    )
+    let all : 360 + from - from ≡ 360 = omega arith in
+    rw add-one
+    (c.raise_vacated.ensures
+    ∙ ap (λ (left : List ℕ). kept_by (raised_vacated gone kept id (take (360 + from - from) (drop from air)) left)) head.invariant
+    ∙ ap (λ (m : ℕ). kept_by (raised_vacated gone kept id (take m (drop from air)) (kept_by (renewed gone (stations_to air k) kept)))) all
+    ∙ renewed-place air (λ i. (c.type_inv.air i).fits) pre.0 a.n pre.1 pre.2 gone kept k (omega arith))
 
 pub returns : goal.returns
 returns c =
     let e : c.loop-k.k ≡ c.args.n = omega arith in
-    rw e at c.loop-k.invariant.0
+    rw e at c.loop-k.invariant

@@ -9,19 +9,19 @@ use native.Mathlib.Omega.{arith}
 use Rattle.board_kept.proofs.kept.raise.Goals as goal
 
 pub loop-v-init : goal.loop-v-init
-loop-v-init c = (written_none (raised c.args.id c.args.bits.now c.args.kept.now) c.args.kept.now c.requires.0, omega arith)
+loop-v-init c = written_none (raised c.args.id c.args.bits.now c.args.kept.now) c.args.kept.now c.requires.0
 
 pub entry_in-requires : goal.entry_in-requires
 entry_in-requires c =
     let head = c.loop-v in
     let start = c in
-    (ap length head.invariant.0 ∙ written-length (raised start.args.id start.args.bits.now start.args.kept.now) start.args.kept.now start.requires.0 head.v (omega arith), omega arith)
+    (ap length head.invariant ∙ written-length (raised start.args.id start.args.bits.now start.args.kept.now) start.args.kept.now start.requires.0 head.v (omega arith), omega arith)
 
 pub put_entry-requires : goal.put_entry-requires
 put_entry-requires c =
     let head = c.loop-v in
     let start = c in
-    (ap length head.invariant.0 ∙ written-length (raised start.args.id start.args.bits.now start.args.kept.now) start.args.kept.now start.requires.0 head.v (omega arith), omega arith)
+    (ap length head.invariant ∙ written-length (raised start.args.id start.args.bits.now start.args.kept.now) start.args.kept.now start.requires.0 head.v (omega arith), omega arith)
 
 pub loop-v-preserved : goal.loop-v-preserved
 loop-v-preserved c =
@@ -33,19 +33,17 @@ loop-v-preserved c =
     let new = entry (get_or a.bits.now head.v 0) a.id in
     let here : best.result ≡ raised a.id a.bits.now kept head.v =
     best.ensures
-    ∙ ap (better_of new) (c.entry_in.ensures ∙ ap (λ (l : List ℕ). entry_in l head.v) head.invariant.0 ∙ written-rest (raised start.args.id start.args.bits.now start.args.kept.now) kept start.requires.0 head.v (omega arith)) in (
-      c.put_entry.ensures
-          ∙ ap (λ (l : List ℕ). set (set l head.v best.result.bits) (360 + head.v) best.result.id) head.invariant.0
-          ∙ written-more (raised start.args.id start.args.bits.now start.args.kept.now) kept start.requires.0 head.v (omega arith) here,
-      omega arith,
-    )
+    ∙ ap (better_of new) (c.entry_in.ensures ∙ ap (λ (l : List ℕ). entry_in l head.v) head.invariant ∙ written-rest (raised start.args.id start.args.bits.now start.args.kept.now) kept start.requires.0 head.v (omega arith)) in
+    c.put_entry.ensures
+    ∙ ap (λ (l : List ℕ). set (set l head.v best.result.bits) (360 + head.v) best.result.id) head.invariant
+    ∙ written-more (raised start.args.id start.args.bits.now start.args.kept.now) kept start.requires.0 head.v (omega arith) here
 
 pub shape_of-kept : goal.shape_of-kept
 shape_of-kept c =
     let start = c in
-    ap length c.loop-v.invariant.0 ∙ written-length (raised start.args.id start.args.bits.now start.args.kept.now) start.args.kept.now start.requires.0 c.loop-v.v (omega arith) ∙ sym start.requires.0
+    ap length c.loop-v.invariant ∙ written-length (raised start.args.id start.args.bits.now start.args.kept.now) start.args.kept.now start.requires.0 c.loop-v.v (omega arith) ∙ sym start.requires.0
 
 pub returns : goal.returns
 returns c =
     let start = c in
-    c.loop-v.invariant.0 ∙ written_all (raised start.args.id start.args.bits.now start.args.kept.now) start.args.kept.now start.requires.0 c.loop-v.v (omega arith)
+    c.loop-v.invariant ∙ written_all (raised start.args.id start.args.bits.now start.args.kept.now) start.args.kept.now start.requires.0 c.loop-v.v (omega arith)

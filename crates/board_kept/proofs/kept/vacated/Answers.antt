@@ -24,7 +24,7 @@ another-there kept gone v differ = rw (ne_eqb (get_or kept (360 + v) 0) gone dif
 pub loop-v-init : goal.loop-v-init
 loop-v-init c =
     let a = c.args in
-    (written_none (renewed a.gone [] a.kept.now) blank refl, omega arith)
+    written_none (renewed a.gone [] a.kept.now) blank refl
 
 pub entry_in-was-requires : goal.entry_in-was-requires
 entry_in-was-requires c = (c.requires, omega arith)
@@ -33,13 +33,13 @@ pub slice_bounds-put_entry-end : goal.slice_bounds-put_entry-end
 slice_bounds-put_entry-end c =
     let head = c.loop-v in
     let a = c.args in
-    sym (ap length head.invariant.0 ∙ written-length (renewed a.gone [] a.kept.now) blank refl head.v (omega arith))
+    sym (ap length head.invariant ∙ written-length (renewed a.gone [] a.kept.now) blank refl head.v (omega arith))
 
 pub put_entry-requires : goal.put_entry-requires
 put_entry-requires c =
     let head = c.loop-v in
     let a = c.args in
-    (ap length head.invariant.0 ∙ written-length (renewed a.gone [] a.kept.now) blank refl head.v (omega arith), omega arith)
+    (ap length head.invariant ∙ written-length (renewed a.gone [] a.kept.now) blank refl head.v (omega arith), omega arith)
 
 pub loop-v-preserved : goal.loop-v-preserved
 loop-v-preserved c =
@@ -54,14 +54,12 @@ loop-v-preserved c =
     elim rest.branch [
       | then-was-gone w ↦ w.rest-is ∙ w.nobody-rest.ensures ∙ gone-there kept a.gone head.v (omega arith) (sym id ∙ w.if-was-gone.true)
       | else-was-gone w ↦ w.rest-is ∙ was ∙ another-there kept a.gone head.v (λ e. w.if-was-gone.false (id ∙ e))
-    ] in (
-      c.put_entry.ensures
-          ∙ ap (λ (l : List ℕ). set (set l head.v rest.rest.bits) (360 + head.v) rest.rest.id) head.invariant.0
-          ∙ written-more f blank refl head.v (omega arith) here,
-      omega arith,
-    )
+    ] in
+    c.put_entry.ensures
+    ∙ ap (λ (l : List ℕ). set (set l head.v rest.rest.bits) (360 + head.v) rest.rest.id) head.invariant
+    ∙ written-more f blank refl head.v (omega arith) here
 
 pub returns : goal.returns
 returns c =
     let a = c.args in
-    c.loop-v.invariant.0 ∙ written_all (renewed a.gone [] a.kept.now) blank refl c.loop-v.v (omega arith)
+    c.loop-v.invariant ∙ written_all (renewed a.gone [] a.kept.now) blank refl c.loop-v.v (omega arith)

@@ -1,7 +1,7 @@
 -- `board_kept::kept::vacated` meets its contract.
 use mathlib.Core.Path.{◌≡◌}
 use mathlib.Core.List.{List, []}
-use Prim.Native.Nat.{ℕ, ◌≤◌, ◌-◌}
+use Prim.Native.Nat.{ℕ}
 use lib.ListN.{replicate}
 use Rattle.board_kept.specs.Steps.{renewed}
 use Rattle.board_kept.proofs.Writing.{written_to}
@@ -11,7 +11,4 @@ abbrev pub blank : List ℕ
 blank = replicate 720 0
 
 abbrev pub invariant-loop-v : goal.invariant-loop-v
-invariant-loop-v l = (l.left ≡ written_to (renewed l.gone [] l.kept) blank l.v) × (l.v ≤ 360)
-
-abbrev pub decreases-loop-v : goal.decreases-loop-v
-decreases-loop-v l = 360 - l.v
+invariant-loop-v l = l.left ≡ written_to (renewed l.gone [] l.kept) blank l.v

@@ -8,11 +8,14 @@ use lib.ListN.{take, drop}
 use Rattle.words.proofs.Digits.{length_digits}
 use Rattle.station.specs.Record.{record_of}
 use Rattle.card.specs.Reading.{bytes_of}
-use Rattle.card.proofs.Laying.{record_length, record_written, bytes-laid}
+use Rattle.card.proofs.Laying.{record_length, record_taken, record_written, bytes-laid}
 use Rattle.card.proofs.bytes.put_bytes.Goals as goal
 
 pub slice_bounds-write-end-2 : goal.slice_bounds-write-end-2
 slice_bounds-write-end-2 c = sym (length-take-le 225 c.args.out.now (omega arith))
+
+pub unwrap-requires : goal.unwrap-requires
+unwrap-requires c = let out = c.args.out.now in record_taken c.args.reading.station (take 225 out) _ c.write.result c.requires.1.finite c.requires.1.mode (length-take-le 225 out (omega arith)) c.write.ensures
 
 pub returns : goal.returns
 unfolding bytes_of

@@ -24,16 +24,16 @@ filled_more v m p s x e q =
 
 pub loop-p-init : goal.loop-p-init
 unfolding zeros filled_to
-loop-p-init c = (c.blank-station.ensures, omega arith)
+loop-p-init c = c.blank-station.ensures
 
 pub loop-p-preserved : goal.loop-p-preserved
 loop-p-preserved c =
     let l = c.loop-p in
-    (rw add-one (c.with_float-station.ensures ∙ filled_more (placed c.args.kind (card_of c.args.text.now)) _ l.p l.station _ l.invariant.0 c.placed-x.ensures), omega arith)
+    rw add-one (c.with_float-station.ensures ∙ filled_more (placed c.args.kind (card_of c.args.text.now)) _ l.p l.station _ l.invariant c.placed.ensures)
 
 pub returns : goal.returns
 unfolding station_in
 returns c =
     let l = c.loop-p in
     let end : l.p ≡ 56 = omega arith in
-    rw end at l.invariant.0
+    rw end at l.invariant

@@ -13,7 +13,7 @@ use Rattle.card_back.proofs.text.push_numbers.Goals.{In-loop-k}
 
 pub loop-k-init : goal.loop-k-init
 unfolding in_turn
-loop-k-init c = let a = c.args in (omega arith, refl, wrote_none a.out.now a.at)
+loop-k-init c = let a = c.args in (refl, wrote_none a.out.now a.at)
 
 -- the number's place is one of the station's
 in-station : (c : In-loop-k) → c.before.before.before.first_place-first.result + c.before.loop-k.k + 1 ≤ 59
@@ -32,7 +32,7 @@ push_word-end-requires c =
     let start = c in
     let l = c.loop-k in
     let n = numbers-length start.args.kind (place_in start.args.s start.args.bytes.now) start.args.f l.k in (
-      omega (arith, l.invariant.2.after, c.count_of-count.ensures),
+      omega (arith, l.invariant.1.after, c.count_of-count.ensures),
       rw c.place_of-x.ensures (start.requires.1.finites _ (omega (arith, in-station (goal.at.push_word-end-requires c).In-loop-k))),
     )
 
@@ -45,16 +45,15 @@ loop-k-preserved c =
     let a = placed.args in
     let n = numbers-length a.kind (place_in a.s a.bytes.now) a.f l.k in
     let word = rw (placed.place_of-x.ensures, placed.first_place-first.ensures) at pushed.push_word-end.ensures in (
-      omega (arith, placed.count_of-count.ensures),
-      pushed.push_word-end.auto.out ∙ l.invariant.1,
-      rw add-one (then l.invariant.2 word (omega (arith, l.invariant.2.after))),
+      pushed.push_word-end.auto.out ∙ l.invariant.0,
+      rw add-one (then l.invariant.1 word (omega (arith, l.invariant.1.after))),
     )
 
 pub shape_of-out : goal.shape_of-out
-shape_of-out c = c.loop-k.invariant.1
+shape_of-out c = c.loop-k.invariant.0
 
 pub returns : goal.returns
 returns c =
     let a = c.args in
     let e : c.loop-k.k ≡ count_of a.kind a.f = omega (arith, c.count_of-count.ensures) in
-    rw e at c.loop-k.invariant.2
+    rw e at c.loop-k.invariant.1

@@ -1,16 +1,26 @@
 -- `card_faults::faults::push_limit` meets its contract. Assumes nothing.
+use mathlib.Core.Path.{ap}
 use native.Mathlib.Omega.{arith}
-use Rattle.card_faults.specs.Faults.{limit}
+use lib.ListN.{length}
 use Rattle.quoted.specs.Quoted.{quoted}
-use Rattle.card_words.proofs.Pushing.{all, both, within}
+use Rattle.answers.specs.Outcome.{number}
+use Rattle.card_faults.specs.Faults.{limit}
+use Rattle.card_faults.proofs.Lengths.{broken-short, refused-short}
+use Rattle.card_words.proofs.Pushing.{all, both, up_to, within}
 use Rattle.card_faults.proofs.faults.push_limit.Goals as goal
+
+pub push_bytes-refusal_at-requires : goal.push_bytes-refusal_at-requires
+push_bytes-refusal_at-requires c = let a = c.args in rw c.broken.ensures (omega (arith, broken-short a.f a.number a.x))
+
+pub push_bytes-requires : goal.push_bytes-requires
+push_bytes-requires c =
+    let a = c.args in
+    rw c.refused_text.ensures (omega (arith, refused-short (number a.refusal), ap length c.broken.ensures, broken-short a.f a.number a.x))
 
 pub returns : goal.returns
 unfolding limit quoted
 returns c =
-    let at-refused = c in
-    let at-broken = at-refused in
-    let at-shown = at-broken in
-    let at-bytes = at-shown in
-    let start = at-bytes in
-    within (both (both (both (all at-bytes.push_bytes-word_at.ensures) at-shown.push_shown-broken_at.ensures (omega arith)) at-broken.push_broken-refusal_at.ensures (omega arith)) at-refused.push_refused.ensures (omega arith)) (omega arith)
+    let a = c.args in
+    let said = up_to {n = 33} (rw c.broken.ensures at c.push_bytes-refusal_at.ensures) (broken-short a.f a.number a.x) in
+    let refused = up_to {n = 19} (rw c.refused_text.ensures at c.push_bytes.ensures) (refused-short (number a.refusal)) in
+    within (both (both (both (all c.push_bytes-word_at.ensures) c.push_shown-broken_at.ensures (omega arith)) said (omega arith)) refused (omega arith)) (omega arith)

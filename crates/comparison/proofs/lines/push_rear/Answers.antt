@@ -1,56 +1,29 @@
 -- `comparison::lines::push_rear` meets its contract. Assumes nothing.
-use native.Mathlib.Omega.{arith}
 use lib.Dec.{lit≤}
-use borrow.Author.Tests.{eq-eqb, ne_eqb}
 use Rattle.quoted.specs.Quoted.{quoted}
 use Rattle.labels.proofs.Put.{of, more}
-use Rattle.comparison.specs.Lines.{behind_text}
+use Rattle.dial.proofs.OtherKinds.{no_floor, no_silence}
+use Rattle.comparison.specs.Lines.{behind_text, floor_behind}
 use Rattle.comparison.proofs.lines.push_rear.Goals as goal
 
-pub push_bytes-requires : goal.push_bytes-requires
-push_bytes-requires c = omega (arith, c.requires)
-
-pub shape_of-out-then-m-eq2 : goal.shape_of-out-then-m-eq2
-shape_of-out-then-m-eq2 c = c.push_bytes.auto.out
-
-pub returns-then-m-eq2 : goal.returns-then-m-eq2
+pub returns-in-Silence-default-default : goal.returns-in-Silence-default-default
 unfolding behind_text quoted
-returns-then-m-eq2 c =
-    let p0 = c in
-    rw (eq-eqb _ _ c.if-m-eq2.true) (more 64 (of p0.push_bytes.ensures) (lit≤ tt))
+returns-in-Silence-default-default c = rw c.in-Silence-default-default.is-0 (more 64 (of c.push_bytes.ensures) (lit≤ tt))
 
-pub push_bytes-requires-then-m-eq1 : goal.push_bytes-requires-then-m-eq1
-push_bytes-requires-then-m-eq1 c = omega (arith, c.requires)
-
-pub shape_of-out-then-m-eq1 : goal.shape_of-out-then-m-eq1
-shape_of-out-then-m-eq1 c = c.push_bytes-then-m-eq1.auto.out
-
-pub returns-then-m-eq1 : goal.returns-then-m-eq1
+pub returns-in_default-Floor-default : goal.returns-in_default-Floor-default
 unfolding behind_text quoted
-returns-then-m-eq1 c =
-    let p0 = c in
-    rw (ne_eqb _ _ c.if-m-eq2.false, eq-eqb _ _ c.if-m-eq1.true) (more 64 (of p0.push_bytes-then-m-eq1.ensures) (lit≤ tt))
+returns-in_default-Floor-default c =
+    let k = c.in_default-Floor-default in
+    rw (no_silence _ k.not-Silence-0, k.is-1) (more 64 (of c.push_bytes-in_default-Floor-default.ensures) (lit≤ tt))
 
-pub push_floor-requires : goal.push_floor-requires
-push_floor-requires c = omega (arith, c.requires)
+pub returns-in_default-default-Floor : goal.returns-in_default-default-Floor
+unfolding behind_text floor_behind
+returns-in_default-default-Floor c =
+    let k = c.in_default-default-Floor in
+    rw (no_silence _ k.not-Silence-0, no_floor _ k.not-Floor-1, k.is-2) c.push_floor.ensures
 
-pub shape_of-out-then-m-eq1-2 : goal.shape_of-out-then-m-eq1-2
-shape_of-out-then-m-eq1-2 c = c.push_floor.auto.out
-
-pub returns-then-m-eq1-2 : goal.returns-then-m-eq1-2
-unfolding behind_text quoted
-returns-then-m-eq1-2 c =
-    let p0 = c in
-    rw (ne_eqb _ _ c.if-m-eq2.false, ne_eqb _ _ c.if-m-eq1.false, eq-eqb _ _ c.if-m-eq1-2.true) (more 64 p0.push_floor.ensures (lit≤ tt))
-
-pub push_level-requires : goal.push_level-requires
-push_level-requires c = omega (arith, c.requires)
-
-pub shape_of-out : goal.shape_of-out
-shape_of-out c = c.push_level.auto.out
-
-pub returns : goal.returns
-unfolding behind_text quoted
-returns c =
-    let p0 = c in
-    rw (ne_eqb _ _ c.if-m-eq2.false, ne_eqb _ _ c.if-m-eq1.false, ne_eqb _ _ c.if-m-eq1-2.false) (more 64 p0.push_level.ensures (lit≤ tt))
+pub returns-in_default : goal.returns-in_default
+unfolding behind_text
+returns-in_default c =
+    let k = c.in_default in
+    rw (no_silence _ k.not-Silence-0, no_floor _ k.not-Floor-1, no_floor _ k.not-Floor-2) c.push_level.ensures

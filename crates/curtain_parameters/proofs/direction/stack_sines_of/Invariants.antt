@@ -1,11 +1,7 @@
 -- `curtain_parameters::direction::stack_sines_of` meets its contract.
 use mathlib.Core.Path.{◌≡◌}
-use Prim.Native.Nat.{◌-◌, ◌≤◌}
 use Rattle.curtain_parameters.specs.DirectionSteps.{stack_sines_of}
 use Rattle.curtain_parameters.proofs.direction.stack_sines_of.Given as goal
 
 abbrev pub invariant-loop-i : goal.invariant-loop-i
-invariant-loop-i l = (l.fz ≡ stack_sines_of l.mode l.xs l.xh l.stheta l.i) × (l.i ≤ l.nostak)
-
-abbrev pub decreases-loop-i : goal.decreases-loop-i
-decreases-loop-i l = l.nostak - l.i
+invariant-loop-i l = l.fz ≡ stack_sines_of l.mode l.xs l.xh l.stheta l.i

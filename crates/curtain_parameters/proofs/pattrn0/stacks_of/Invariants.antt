@@ -1,11 +1,7 @@
 -- `curtain_parameters::pattrn0::stacks_of` meets its contract.
 use mathlib.Core.Path.{◌≡◌}
-use Prim.Native.Nat.{◌-◌, ◌≤◌}
 use Rattle.curtain_parameters.specs.Pattrn0.{stack_ratios, stack_heights}
 use Rattle.curtain_parameters.proofs.pattrn0.stacks_of.Given as goal
 
 abbrev pub invariant-loop-is : goal.invariant-loop-is
-invariant-loop-is l = (l.c ≡ stack_ratios l.mode l.is) × (l.z ≡ stack_heights l.xs l.xh l.is) × (l.is ≤ l.nostak)
-
-abbrev pub decreases-loop-is : goal.decreases-loop-is
-decreases-loop-is l = l.nostak - l.is
+invariant-loop-is l = (l.c ≡ stack_ratios l.mode l.is) × (l.z ≡ stack_heights l.xs l.xh l.is)

@@ -10,7 +10,7 @@ use Rattle.curtain_pattern.proofs.integral.dbltrap.Goals.{After-strip-s}
 
 pub loop-ip-init : goal.loop-ip-init
 unfolding t_after Integral.tint
-loop-ip-init c = (refl, refl, refl, omega arith)
+loop-ip-init c = (refl, refl, refl)
 
 -- what an elevation has counted
 counted : (c : After-strip-s) → c.strip-s.result.readings ≡ 181
@@ -24,7 +24,7 @@ unfolding t_after Integral.tint ◌⊞◌
 loop-ip-preserved c =
     let s = c in
     let inv = s.loop-ip.invariant in
-    (rw (add-one, s.strip-s.ensures, inv.0, inv.2), omega (arith, counted (goal.at.loop-ip-preserved c).After-strip-s), rw (add-one, inv.2), omega arith)
+    (rw (add-one, s.strip-s.ensures, inv.0, inv.2), omega (arith, counted (goal.at.loop-ip-preserved c).After-strip-s), rw (add-one, inv.2))
 
 pub returns : goal.returns
 returns c =

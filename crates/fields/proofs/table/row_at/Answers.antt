@@ -1,36 +1,9 @@
--- `row_at`, a row a turn: none of the first r is one. Assumes nothing.
-use mathlib.Core.Path.{◌≡◌, refl, sym, ◌∙◌}
-use mathlib.Core.Bool.{true, false}
-use Prim.Native.Nat.{suc}
-use native.Mathlib.Omega.{arith}
-use native.Mathlib.Numerals.{add-one}
-use Rattle.fields.specs.Least.{least}
+-- `row_at`, by the calls of its test. Assumes nothing.
+use Rattle.std.proofs.Common.{rules}
 use Rattle.fields.specs.Table.{LAST, is_row_at, row_at}
-use Rattle.fields.proofs.Least.{least_more, least-found}
+use Rattle.fields.proofs.Least.{least_is}
 use Rattle.fields.proofs.table.row_at.Goals as goal
-
-pub loop-r-init : goal.loop-r-init
-unfolding least
-loop-r-init c = (refl, omega arith)
-
-pub returns-then-in_kind-number_in : goal.returns-then-in_kind-number_in
-unfolding row_at
-returns-then-in_kind-number_in c =
-    let l = c.loop-r in
-    let a = c.args in
-    let here : (is_row_at a.kind a.p) (suc l.r) ≡ true = rw (c.in_kind.ensures, c.number_in.ensures, c.nth_row-it.ensures, add-one) at c.if-in_kind-number_in.true in
-    (add-one l.r ∙ sym (least-found (is_row_at a.kind a.p) l.r LAST l.invariant.0 here (omega arith)), omega arith)
-
-pub loop-r-preserved : goal.loop-r-preserved
-loop-r-preserved c =
-    let l = c.loop-r in
-    let a = c.args in
-    let here : (is_row_at a.kind a.p) (suc l.r) ≡ false = rw (c.in_kind.ensures, c.number_in.ensures, c.nth_row-it.ensures, add-one) at c.if-in_kind-number_in.false in
-    (rw add-one (least_more (is_row_at a.kind a.p) l.r l.invariant.0 here), omega arith)
 
 pub returns : goal.returns
 unfolding row_at
-returns c =
-    let l = c.loop-r in
-    let end : l.r ≡ LAST = omega arith in
-    (sym (rw end at l.invariant.0), omega arith)
+returns c = (least_is (is_row_at c.args.kind c.args.p) _ LAST _ (λ i b h p. search rules) c.least.ensures, c.least.ensures.within)

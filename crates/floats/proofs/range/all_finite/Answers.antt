@@ -1,18 +1,23 @@
+use Rattle.std.proofs.Common.{◌≡◌, ℕ, zero, suc, ◌≤◌, List, length, take, refl, add-one, arith, rules, tests}
+use Rattle.std.specs.Prelude.{Float}
+use Rattle.std.specs.Float.{nan}
+use Rattle.std.specs.Float.Ieee.Scale.{finite}
+use Rattle.std.specs.List.{list_all}
+use Rattle.std.proofs.lemmas.Iterator.{YieldsList-from_slice}
+use Rattle.std.proofs.lemmas.Iterator.Search.{all_from_yields_List}
+use Rattle.std.proofs.Math.Seq.{take-length}
+use Rattle.std.proofs.lemmas.List.Folds.{list_all_more}
 use Rattle.floats.specs.Ranges.{finite_to, all_finite}
-use lib.ListN.{length}
-use mathlib.Core.Path.{◌≡◌, refl}
-use native.Mathlib.Omega.{arith}
-use native.Mathlib.Numerals.{add-one}
 use Rattle.floats.proofs.range.all_finite.Goals as goal
 
-pub loop-i-init : goal.loop-i-init
+first_finite : (l : List Float) (n : ℕ) → n ≤ length l → finite_to l n ≡ list_all finite (take n l)
 unfolding finite_to
-loop-i-init c = (refl, omega arith)
-
-pub loop-i-preserved : goal.loop-i-preserved
-unfolding finite_to
-loop-i-preserved c = (rw (c.is_finite-ok.ensures, c.loop-i.invariant.0, add-one), omega arith)
+first_finite l zero h = refl
+first_finite l (suc n) h = rw (← add-one, list_all_more finite l n nan (omega arith), first_finite l n (omega arith))
 
 pub returns : goal.returns
 unfolding all_finite
-returns c = let e : c.loop-i.i ≡ length c.args.s.now = omega arith in rw e at c.loop-i.invariant.0
+returns c =
+    let l = c.args.s.now in
+    let e = all_from_yields_List finite _ _ _ c.all.ensures.ran (YieldsList-from_slice l cc) (λ x b q k. search (rules, tests)) in
+    rw (e, first_finite l (length l) (omega arith), take-length)

@@ -5,7 +5,4 @@ use Rattle.ground.specs.Table.{elevations_to}
 use Rattle.ground.proofs.parmprec.fill_elevations.Given as goal
 
 abbrev pub invariant-loop-u : goal.invariant-loop-u
-invariant-loop-u l = (l.t ≡ elevations_to l.m l.initial.t l.u) × (l.u ≤ 91)
-
-abbrev pub decreases-loop-u : goal.decreases-loop-u
-decreases-loop-u l = 91 - l.u
+invariant-loop-u l = l.t ≡ elevations_to l.m l.initial.t l.u

@@ -9,7 +9,4 @@ use Rattle.ground.specs.Table.{row_to}
 use Rattle.ground.proofs.parmprec.fill_row.Given as goal
 
 abbrev pub invariant-loop-k : goal.invariant-loop-k
-invariant-loop-k l = (l.t ≡ row_to (λ (i : ℕ). entry_of l.iant l.r (l.delta ⊗ get_or l.elements.h i nan)) l.elements.iek l.u l.initial.t l.k) × (l.k ≤ l.nat)
-
-abbrev pub decreases-loop-k : goal.decreases-loop-k
-decreases-loop-k l = l.nat - l.k
+invariant-loop-k l = (l.t ≡ row_to (λ (i : ℕ). entry_of l.iant l.r (l.delta ⊗ get_or l.elements.h i nan)) l.elements.iek l.u l.initial.t l.k)

@@ -5,7 +5,4 @@ use Rattle.ground.specs.Ground.{ground_to}
 use Rattle.ground.proofs.parmprec.ground_of.Given as goal
 
 abbrev pub invariant-loop-u : goal.invariant-loop-u
-invariant-loop-u l = (l.g ≡ ground_to l.iant l.k l.t l.u) × (l.u ≤ 91)
-
-abbrev pub decreases-loop-u : goal.decreases-loop-u
-decreases-loop-u l = 91 - l.u
+invariant-loop-u l = l.g ≡ ground_to l.iant l.k l.t l.u

@@ -53,8 +53,5 @@ returns-then-past-gt31 c = sym (below_half (got (goal.at.returns-then-past-gt31 
 pub overflow_sub-more : goal.overflow_sub-more
 overflow_sub-more c = omega (arith, past-from (got (goal.at.overflow_sub-more c).After-bits_of-bits))
 
-pub overflow_add-more : goal.overflow_add-more
-overflow_add-more c = omega (arith, half_le (got (goal.at.overflow_add-more c).After-bits_of-bits) (omega arith))
-
 pub returns : goal.returns
 returns c = sym (from-half (got (goal.at.returns c).After-bits_of-bits) (omega arith))

@@ -8,6 +8,7 @@ use lib.Ieee.{binary32, of_bits}
 use Rattle.levels.specs.State.{held, next, levels_in}
 use Rattle.levels.specs.Shown.{screen_of}
 use Rattle.levels.proofs.FirstLevel.{in_two_parts}
+use Rattle.levels.proofs.Places.{as_slice}
 use Rattle.levels.proofs.display.shown.Goals as goal
 
 pub returns-then-count-eq0 : goal.returns-then-count-eq0
@@ -26,5 +27,5 @@ returns c =
     let late = slice (next s) (held s) s in
     let early = slice 0 (next s) s in
     let words : length (late ++ early) ≡ held s = length-append late early ∙ omega (arith, length-slice (next s) (held s) s (omega arith), length-slice 0 (next s) s (omega arith)) in
-    rw (c.extremes_over-all.ensures.greatest_value, c.extremes_over-all.ensures.least_value, c.extremes_over-late.ensures.greatest_value, c.extremes_over-late.ensures.least_value)
+    rw (c.extremes_over-all.ensures.greatest_value, c.extremes_over-all.ensures.least_value, c.extremes_over-late.ensures.greatest_value, c.extremes_over-late.ensures.least_value, as_slice s (next s) (held s) (omega arith))
     (in_two_parts (of_bits binary32) late early (held s) words (omega arith) first.result first.ensures)

@@ -1,10 +1,7 @@
 -- `logperiodic::active::active_of` meets its contract.
-use Rattle.std.proofs.Common.{◌≡◌, ◌-◌, ◌≤◌}
+use Rattle.std.proofs.Common.{◌≡◌}
 use Rattle.logperiodic.specs.Active.{active_to}
 use Rattle.logperiodic.proofs.active.active_of.Given as goal
 
 abbrev pub invariant-loop-k : goal.invariant-loop-k
-invariant-loop-k l = (l.a ≡ active_to l.s l.rl l.k) × (l.k ≤ l.nel)
-
-abbrev pub decreases-loop-k : goal.decreases-loop-k
-decreases-loop-k l = l.nel - l.k
+invariant-loop-k l = l.a ≡ active_to l.s l.rl l.k

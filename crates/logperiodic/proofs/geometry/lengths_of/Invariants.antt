@@ -4,7 +4,4 @@ use Rattle.std.proofs.Common.{◌≡◌, ◌-◌, ◌≤◌}
 use Rattle.logperiodic.proofs.geometry.lengths_of.Given as goal
 
 abbrev pub invariant-loop-k : goal.invariant-loop-k
-invariant-loop-k l = (l.rl ≡ lengths_to l.nel l.rlnel l.tau l.k) × (l.k ≤ l.nel - 1)
-
-abbrev pub decreases-loop-k : goal.decreases-loop-k
-decreases-loop-k l = l.nel - 1 - l.k
+invariant-loop-k l = (l.rl ≡ lengths_to l.nel l.rlnel l.tau (l.nel - l.k)) × (1 ≤ l.k)

@@ -1,11 +1,7 @@
 -- `pattern::passes::up` meets its contract.
 use mathlib.Core.Path.{◌≡◌}
-use Prim.Native.Nat.{◌≤◌, ◌-◌}
 use Rattle.pattern.specs.Passes.{gains_up}
 use Rattle.pattern.proofs.passes.up.Given as goal
 
 abbrev pub invariant-loop-i : goal.invariant-loop-i
-invariant-loop-i l = (l.out ≡ gains_up l.m l.table l.v l.i) × (l.i ≤ 90)
-
-abbrev pub decreases-loop-i : goal.decreases-loop-i
-decreases-loop-i l = 90 - l.i
+invariant-loop-i l = l.out ≡ gains_up l.m l.table l.v l.i

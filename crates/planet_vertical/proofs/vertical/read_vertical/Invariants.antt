@@ -1,5 +1,4 @@
--- `planet_vertical::vertical::read_vertical` meets its contract: the numbers so far stand in the lent floats. Assumes nothing.
-use Prim.Native.Nat.{◌-◌, ◌≤◌}
+-- `planet_vertical::vertical::read_vertical` meets its contract: the numbers so far. Assumes nothing.
 use mathlib.Core.Path.{◌≡◌}
 use lib.ListN.{length, take}
 use Rattle.answers.specs.Outcome.{accepted}
@@ -8,7 +7,4 @@ use Rattle.planet_vertical.proofs.vertical.read_vertical.Given as goal
 
 abbrev pub invariant-loop-angle : goal.invariant-loop-angle
 invariant-loop-angle l =
-    (l.angle ≤ 181) × (length l.lent ≡ length l.initial.lent) × (numbers_to (vertical_gain l.q l.table) l.angle ≡ accepted (take l.angle l.lent))
-
-abbrev pub decreases-loop-angle : goal.decreases-loop-angle
-decreases-loop-angle l = 181 - l.angle
+    (length l.numbers ≡ 181) × (numbers_to (vertical_gain l.q l.table) l.angle ≡ accepted (take l.angle l.numbers))

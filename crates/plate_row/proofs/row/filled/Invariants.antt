@@ -1,14 +1,9 @@
 -- `plate_row::row::filled` meets its contract.
 use mathlib.Core.Path.{◌≡◌}
-use Prim.Native.Nat.{◌≤◌, ◌-◌}
 use Rattle.model.specs.declared.record.Model.{Model}
 use Rattle.pattern.specs.Passes.{gains_around}
 use Rattle.plate_row.specs.Row.{row_to}
 use Rattle.plate_row.proofs.row.filled.Given as goal
 
 abbrev pub invariant-loop-v : goal.invariant-loop-v
-invariant-loop-v l =
-    ((m : Model) → l.gains ≡ gains_around m l.table l.u l.n → l.out ≡ row_to m l.z6 l.table l.u l.giso l.v) × (l.v ≤ l.n)
-
-abbrev pub decreases-loop-v : goal.decreases-loop-v
-decreases-loop-v l = l.n - l.v
+invariant-loop-v l = (m : Model) → l.gains ≡ gains_around m l.table l.u l.n → l.out ≡ row_to m l.z6 l.table l.u l.giso l.v

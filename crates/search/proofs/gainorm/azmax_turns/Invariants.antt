@@ -1,11 +1,8 @@
 -- `search::gainorm::azmax_turns` meets its contract.
-use Rattle.std.proofs.Common.{◌≡◌, ◌+◌, ◌-◌, ◌≤◌}
+use Rattle.std.proofs.Common.{◌≡◌, ◌+◌, ◌≤◌}
 use Rattle.search.specs.Turns.{turns, azmax_turn}
 use Rattle.search.proofs.gainorm.azmax_turns.Given as goal
 
 abbrev pub invariant-loop-i : goal.invariant-loop-i
 invariant-loop-i l =
-    (l.out ≡ turns (azmax_turn l.m l.table l.u l.vm) l.initial.out l.i) × (l.out.tally.readings ≡ l.initial.out.tally.readings + l.i) × (l.out.j ≤ l.i) × (l.i ≤ l.count)
-
-abbrev pub decreases-loop-i : goal.decreases-loop-i
-decreases-loop-i l = l.count - l.i
+    (l.out ≡ turns (azmax_turn l.m l.table l.u l.vm) l.initial.out l.i) × (l.out.tally.readings ≡ l.initial.out.tally.readings + l.i) × (l.out.j ≤ l.i)

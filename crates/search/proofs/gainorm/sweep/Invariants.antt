@@ -1,11 +1,8 @@
 -- `search::gainorm::sweep` meets its contract.
-use Rattle.std.proofs.Common.{◌≡◌, ◌+◌, ◌-◌, ◌≤◌}
+use Rattle.std.proofs.Common.{◌≡◌, ◌+◌}
 use Rattle.search.specs.Turns.{turns, sweep_turn}
 use Rattle.search.proofs.gainorm.sweep.Given as goal
 
 abbrev pub invariant-loop-i : goal.invariant-loop-i
 invariant-loop-i l =
-    (l.out ≡ turns (sweep_turn l.m l.table l.u) l.initial.out l.i) × (l.out.tally.readings ≡ l.initial.out.tally.readings + l.i) × (l.i ≤ 19)
-
-abbrev pub decreases-loop-i : goal.decreases-loop-i
-decreases-loop-i l = 19 - l.i
+    (l.out ≡ turns (sweep_turn l.m l.table l.u) l.initial.out l.i) × (l.out.tally.readings ≡ l.initial.out.tally.readings + l.i)

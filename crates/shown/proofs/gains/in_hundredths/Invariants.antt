@@ -1,5 +1,5 @@
 -- `shown::gains::in_hundredths` meets its contract. Assumes nothing.
-use Prim.Native.Nat.{ℕ, ◌≤◌, ◌<◌, ◌-◌}
+use Prim.Native.Nat.{ℕ, ◌<◌}
 use mathlib.Core.Path.{◌≡◌}
 use mathlib.Core.Bool.{true}
 use lib.ListN.{length, get_or}
@@ -9,8 +9,4 @@ use Rattle.hundredths.specs.Raised.{raised_of}
 use Rattle.shown.proofs.gains.in_hundredths.Given as goal
 
 abbrev pub invariant-loop-v : goal.invariant-loop-v
-invariant-loop-v l =
-    (l.v ≤ 360) × (length l.out ≡ 360) × ((k : ℕ) → k < l.v → (in_span (at l.numbers k) ≡ true) × (get_or l.out k 0 ≡ raised_of (at l.numbers k)))
-
-abbrev pub decreases-loop-v : goal.decreases-loop-v
-decreases-loop-v l = 360 - l.v
+invariant-loop-v l = (length l.out ≡ 360) × ((k : ℕ) → k < l.v → (in_span (at l.numbers k) ≡ true) × (get_or l.out k 0 ≡ raised_of (at l.numbers k)))

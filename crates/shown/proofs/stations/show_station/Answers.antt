@@ -1,24 +1,20 @@
 -- `shown::stations::show_station` meets its contract. Assumes nothing.
-use mathlib.Core.Path.{◌≡◌, sym, ◌∙◌}
-use Rattle.model.specs.Table.{table_size}
-use Rattle.model.proofs.BlankTable.{blank-length}
-use Rattle.request.specs.Request.{request_of, request_answer}
-use Rattle.shown.proofs.StationSteps.{request-refused, request-ready}
+use mathlib.Core.Path.{◌≡◌}
+use Rattle.std.proofs.Common.{Err, rules}
+use Rattle.request.specs.Request.{and_then}
+use Rattle.plate_text.proofs.Asked.{request_refused, request_there}
+use Rattle.shown.specs.StationPlate.{station_plate}
 use Rattle.shown.proofs.stations.show_station.Goals as goal
-use Rattle.shown.proofs.stations.show_station.Goals.{After-prepare-prepared}
 
--- the request of a table of its size
-answered : (c : After-prepare-prepared) → request_answer c.prepare-prepared.result ≡ request_of c.before.before.before.before.args.input.now table_size
-answered c = c.prepare-prepared.ensures.result_value ∙ rw (c.before.before.blank_table-table.ensures, blank-length)
+pub returns-in_err-request : goal.returns-in_err-request
+unfolding station_plate and_then
+returns-in_err-request c =
+    let answered = rw c.blank_table-table.ensures at c.prepare.ensures.result_value in
+    let out : c.from_residual.result ≡ Err c.in_err-request.field-0.0 = search rules in
+    rw (out, request_refused c.args.input.now _ answered _ c.in_err-request.was)
 
-pub returns-in-Refused : goal.returns-in-Refused
-returns-in-Refused c =
-    let prepared = c in
-    let input = prepared.args.input.now in
-    c.refuse.ensures ∙ sym (request-refused input prepared.prepare-prepared.result (answered (goal.at.returns-in-Refused c).After-prepare-prepared) c.in-Refused.n c.in-Refused.is)
-
-pub returns-in-Ready : goal.returns-in-Ready
-returns-in-Ready c =
-    let prepared = c in
-    let input = prepared.args.input.now in
-    rw (request-ready input prepared.prepare-prepared.result (answered (goal.at.returns-in-Ready c).After-prepare-prepared) c.in-Ready.is, ← prepared.blank_table-table.ensures, ← prepared.prepare-prepared.ensures.table_after) c.show_row.ensures
+pub returns : goal.returns
+unfolding station_plate and_then
+returns c =
+    let answered = rw c.blank_table-table.ensures at c.prepare.ensures.result_value in
+    rw (request_there c.args.input.now _ answered _ c.in_ok-request.was, ← c.blank_table-table.ensures, ← c.prepare.ensures.table_after) c.show_row.ensures

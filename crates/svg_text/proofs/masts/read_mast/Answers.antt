@@ -1,22 +1,28 @@
 -- `svg_text::masts::read_mast` meets its contract. Assumes nothing.
-use mathlib.Core.Path.{◌≡◌, sym}
+use mathlib.Core.Path.{◌≡◌}
 use lib.ListN.{length}
+use Rattle.std.proofs.Common.{Err, rules}
 use Rattle.request.specs.Request.{and_then}
-use Rattle.heading.specs.Heading.{heading_answer}
-use Rattle.svg_text.specs.Drawn.{mast_answer}
-use Rattle.svg_text.proofs.Answers.{plate-refused, plate-drawn}
+use Rattle.shown.proofs.Rows.{numbers_shown, kinds_shown}
+use Rattle.svg_text.specs.Drawn.{drawn_of}
 use Rattle.svg_text.proofs.masts.read_mast.Goals as goal
 
-pub returns-in-Refused : goal.returns-in-Refused
-unfolding mast_answer heading_answer and_then
-returns-in-Refused c =
-    let asked = c in
-    sym (plate-refused asked.args.input.now asked.show-shown.result asked.show-shown.ensures c.in-Refused.n c.in-Refused.is)
+pub returns-in_err-row : goal.returns-in_err-row
+unfolding drawn_of and_then
+returns-in_err-row c =
+    let out : c.from_residual.result ≡ Err c.in_err-row.field-0.0 = search rules in
+    rw (out, ← c.in_err-row.ensures)
 
-pub returns-in-Plate : goal.returns-in-Plate
-returns-in-Plate c =
-    let coded = c in
-    let asked = coded in
-    -- the row's length, of its field's range
-    let len : length asked.show-shown.result.numbers ≡ 360 = asked.show-shown.type_inv.1.1.1.0.1.0.1 in
-    plate-drawn asked.args.input.now asked.show-shown.result asked.show-shown.ensures c.in-Plate.is len c.tell.result c.tell.ensures coded.coded-kinds.result coded.coded-kinds.ensures
+pub returns-in_err-heading : goal.returns-in_err-heading
+unfolding drawn_of and_then
+returns-in_err-heading c =
+    let out : c.from_residual-in_err-heading.result ≡ Err c.in_err-heading.field-0.0 = search rules in
+    rw (out, ← c.in_ok-row.ensures, ← c.in_err-heading.ensures)
+
+pub returns : goal.returns
+unfolding drawn_of and_then
+returns c =
+    let row = c.in_ok-row.row in
+    let numbers : length row.numbers ≡ 360 = search rules in
+    let kinds : length row.kinds ≡ 360 = search rules in
+    rw (← c.in_ok-row.ensures, ← c.in_ok-heading.ensures, numbers_shown row numbers, kinds_shown row kinds)

@@ -7,36 +7,9 @@ use Rattle.labels.proofs.Put.{of, next-to}
 use Rattle.table.specs.Table.{back_text}
 use Rattle.table.proofs.column.push_back.Goals as goal
 
-pub push_cell-back_at-requires : goal.push_cell-back_at-requires
-push_cell-back_at-requires c = (omega (arith, c.requires), lit≤ tt)
-
-pub push_difference-end-requires : goal.push_difference-end-requires
-push_difference-end-requires c =
-    let p0 = c in
-    let start = p0 in
-    omega (arith, p0.push_cell-back_at.ensures.short, p0.push_cell-back_at.auto.out, start.requires)
-
-pub push_bytes-requires : goal.push_bytes-requires
-push_bytes-requires c =
-    let p1 = c in
-    let p0 = p1 in
-    let start = p0 in
-    omega (arith, p0.push_cell-back_at.ensures.short, p0.push_cell-back_at.auto.out, p1.push_difference-end.ensures.short, p1.push_difference-end.auto.out, start.requires)
-
-pub shape_of-out : goal.shape_of-out
-shape_of-out c =
-    let p2 = c in
-    let p1 = p2 in
-    let p0 = p1 in
-    p2.push_bytes.auto.out ∙ p1.push_difference-end.auto.out ∙ p0.push_cell-back_at.auto.out
-
 pub returns : goal.returns
 unfolding back_text quoted
 returns c =
-    let p2 = c in
-    let p1 = p2 in
-    let p0 = p1 in
-    let start = p0 in
-    let w1 = next-to p0.push_cell-back_at.ensures p1.push_difference-end.ensures (omega (arith, p0.push_cell-back_at.ensures.short, start.requires)) in
-    let w2 = next-to w1 (of p2.push_bytes.ensures) (omega (arith, p0.push_cell-back_at.ensures.short, p1.push_difference-end.ensures.short, start.requires)) in
+    let w1 = next-to c.push_cell-back_at.ensures c.push_difference-end.ensures (omega arith) in
+    let w2 = next-to w1 (of c.push_bytes.ensures) (omega arith) in
     w2

@@ -6,15 +6,10 @@ use Rattle.words.proofs.Numbers.{decimal-length}
 use Rattle.text.proofs.lines.push_refusal.Goals as goal
 
 pub push-requires : goal.push-requires
-push-requires c =
-    let word = c in
-    omega (arith, decimal-length word.args.number)
+push-requires c = omega (arith, decimal-length c.from.result)
 
 pub returns : goal.returns
 unfolding refusal_line
 returns c =
-    let end = c in
-    let number = end in
-    let word = number in
-    let d = decimal-length word.args.number in
-    then (then word.push_bytes-number_at.ensures number.push_decimal-after_number.ensures (omega arith)) end.push.ensures (omega arith)
+    let d = decimal-length c.from.result in
+    rw (← c.from.ensures) (then (then c.push_bytes-number_at.ensures c.push_decimal-after_number.ensures (omega arith)) c.push.ensures (omega arith))

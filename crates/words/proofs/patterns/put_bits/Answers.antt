@@ -2,31 +2,15 @@
 use mathlib.Core.Path.{◌≡◌, ap, ◌∙◌}
 use native.Mathlib.Omega.{arith}
 use lib.ListN.{length}
-use lib.Seq.{paste-zero}
 use lib.Ieee.{nan, binary32, to_bits}
-use Rattle.words.specs.Patterns.{bits}
-use Rattle.words.proofs.Copies.{written, written-length, written-more, written_all}
+use Rattle.words.proofs.Copies.{written, written-more, written_all}
 use Rattle.words.proofs.patterns.put_bits.Goals as goal
-
-pub loop-i-init : goal.loop-i-init
-loop-i-init c = (omega arith, paste-zero c.args.out.now c.args.at (bits c.args.xs.now))
-
-pub bounds-out-at : goal.bounds-out-at
-bounds-out-at c =
-    let head = c in
-    let a = head.args in
-    rw head.loop-i.invariant.1 (omega (arith, written-length (to_bits binary32) a.out.now a.at a.xs.now head.loop-i.i (omega arith) (omega arith)))
 
 pub loop-i-preserved : goal.loop-i-preserved
 loop-i-preserved c =
     let head = c in
     let a = head.args in
     (omega arith, rw (c.bits_of.ensures, head.loop-i.invariant.1) (written-more (to_bits binary32) a.out.now a.at a.xs.now head.loop-i.i nan (omega arith) (omega arith)))
-
-pub shape_of-out : goal.shape_of-out
-shape_of-out c =
-    let a = c.args in
-    rw c.loop-i.invariant.1 (written-length (to_bits binary32) a.out.now a.at a.xs.now c.loop-i.i (omega arith) (omega arith))
 
 pub returns : goal.returns
 returns c =

@@ -1,0 +1,14 @@
+-- `line_for`, by the calls of its test. Assumes nothing.
+use Prim.Native.Nat.{ℕ}
+use Rattle.std.proofs.Common.{rules}
+use Rattle.lines.specs.Alike.{alike}
+use Rattle.fields.specs.Names.{name_of}
+use Rattle.card.specs.Card.{card_of, word, line_at, line_with}
+use Rattle.card.proofs.Walk.{first_line}
+use Rattle.card.proofs.line.line_for.Goals as goal
+
+pub returns : goal.returns
+unfolding line_with
+returns c =
+    let card = card_of c.args.text.now in
+    first_line (λ (i : ℕ). alike (name_of c.args.f) (word (line_at card i) 0)) c.args.text.now _ _ (λ q b h p. search rules) c.find.ensures

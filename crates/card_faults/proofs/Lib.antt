@@ -1,0 +1,2 @@
+-- How long the sentences of a limit are.
+mod Lengths
