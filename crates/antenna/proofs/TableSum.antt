@@ -4,7 +4,7 @@ use mathlib.Core.List.{map-append}
 use lib.Ieee.{Float, nan, binary32, to_bits}
 use Rattle.words.specs.Laid.{laid}
 use Rattle.words.specs.Patterns.{bits}
-use Rattle.words.proofs.Laid.{take-laid}
+use Rattle.words.proofs.Laid.{take_laid}
 use Rattle.model.specs.Table.{table_size}
 use Rattle.antenna.specs.TableSum.{total, table_sum}
 
@@ -27,7 +27,7 @@ pub sum-next : (t : List Float) (i sum : ℕ) → i < length t → sum ≡ total
 sum-next t i sum h e = omega (arith, e, total-next t i h)
 
 first-laid : (n : ℕ) (lent t : List Float) → length t ≡ n → take n (laid lent 0 t) ≡ take n t
-first-laid n lent t e = take-laid lent 0 t n (omega (arith, e)) (omega arith) ∙ sym (take_all n t (omega (arith, e)))
+first-laid n lent t e = take_laid lent 0 t n (omega (arith, e)) (omega arith) ∙ sym (take_all n t (omega (arith, e)))
 
 -- floats past the table don't count
 pub sum_laid : (lent t : List Float) → length t ≡ table_size → table_sum (laid lent 0 t) ≡ table_sum t

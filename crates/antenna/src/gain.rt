@@ -12,7 +12,7 @@ use numeric::float::is_finite;
 use pattern::gainrel::gainrel;
 
 // A gain in dBi with its kind.
-#[derive(Clone, Copy)]
+#[derive(Clone, Copy, Debug, PartialEq)]
 pub struct Gain {
     pub kind: Kind,
     pub number: f32,
@@ -102,10 +102,9 @@ pub fn gain_told(
     requires { own ≡ own_table ant table.now }
     ensures { outcome_as told result ≡ gain_of ant table.now u v giso }
 {
-    let m = ant.model;
-    check(m, table.len(), gain_asked(own, u, v, giso))?;
+    let c = check(&ant.model, table, gain_asked(own, u, v, giso))?;
     let z6 = ant.peak.z6;
-    let z9 = gainrel(&m, table, u, v);
+    let z9 = gainrel(c, u, v);
     grade(z6, decibels(z9, z6, giso))
 }
 

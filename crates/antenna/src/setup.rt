@@ -1,6 +1,7 @@
 // Set-up, `antinit2`: the antenna record of twenty parameters, and its table in the lent floats.
 ghost use Rattle.std.specs.Prelude.{◌≡◌, true, length, IfOk};
 ghost use Rattle.model.specs.Counts.{counts_ok};
+ghost use Rattle.model.specs.Types.{type_number};
 ghost use Rattle.logperiodic.specs.Active.{Listed};
 ghost use Rattle.answers.specs.Outcome.{outcome_as};
 ghost use Rattle.parameters.specs.Limits.{slots_ok};
@@ -13,8 +14,9 @@ use answers::Refusal;
 use ground::parmprec::{ground_of, table_of};
 use logperiodic::geometry::{Boom, Design};
 use logperiodic::logparm::{LogPeriodic, logparm};
+use model::checked::Checked;
 use model::record::{Elements, Model};
-use model::types::{array_type, jant, log_periodic};
+use model::types::AntennaType;
 use parameters::constants::{constants_of, wave_constants, wavelength};
 use parameters::limits::{check, start_of};
 use parameters::whole::not_zero;
@@ -65,43 +67,44 @@ fn no_elements() -> LogPeriodic
 
 // The elements of types 5 and 6, with their boom.
 #[tactic(auto, using(crate::proofs::setup::Accepted::nel_bounds, crate::proofs::setup::Accepted::none_listed), unfolding(crate::specs::SetUp::elements_of, parameters::specs::TypeConstants::number, parameters::specs::TypeConstants::given, parameters::specs::TypeConstants::constants_with, parameters::specs::TypeConstants::wave_constants))]
-fn elements_of(iant: u32, p: [f32; 20]) -> LogPeriodic
-    requires { slots_ok iant p ≡ true }
-    ensures value { result ≡ elements_of iant p }
+fn elements_of(kind: AntennaType, p: [f32; 20]) -> LogPeriodic
+    requires { slots_ok (type_number kind) p ≡ true }
+    ensures value { result ≡ elements_of (type_number kind) p }
     ensures listed { Listed result.elements.iek result.elements.nat }
 {
-    if log_periodic(iant) {
+    if kind.is_log_periodic() {
         let nel = numeric::float::to_usize(p[5]);
         let rlambda = wavelength(p);
         let beta = wave_constants(p).beta;
-        return logparm(iant, nel, design_of(p), rlambda, beta);
+        return logparm(kind, nel, design_of(p), rlambda, beta);
     }
     no_elements()
 }
 
 // Whether the truncated slew is not 0.
 #[tactic(auto, unfolding(crate::specs::SetUp::slewed_of))]
-fn slewed(iant: u32, p: [f32; 20]) -> bool
-    ensures { result ≡ slewed_of iant p }
+fn slewed(kind: AntennaType, p: [f32; 20]) -> bool
+    ensures { result ≡ slewed_of (type_number kind) p }
 {
-    array_type(iant) & not_zero(p[9])
+    kind.is_array() & not_zero(p[9])
 }
 
 #[tactic(auto, using(crate::proofs::setup::Accepted::constant_counts, crate::proofs::setup::Accepted::counts_made), unfolding(crate::specs::SetUp::model_of))]
-fn model_of(iant: u32, p: [f32; 20]) -> Model
-    requires { slots_ok iant p ≡ true }
-    ensures value { result ≡ model_of iant p }
+fn model_of(kind: AntennaType, p: [f32; 20]) -> Model
+    requires { slots_ok (type_number kind) p ≡ true }
+    ensures value { result ≡ model_of (type_number kind) p }
     ensures result_value { counts_ok result ≡ true }
+    ensures typed { type_number kind ≡ result.iant }
 {
-    let l = elements_of(iant, p);
+    let l = elements_of(kind, p);
     let elements = l.elements;
     let boom = l.boom;
-    let constants = constants_of(iant, p, boom);
+    let constants = constants_of(kind, p, boom);
     let trig = trigfun();
-    let ground = ground_of(iant, constants, trig);
+    let ground = ground_of(kind, constants, trig);
     Model {
-        iant,
-        slewed: slewed(iant, p),
+        iant: u32::from(kind),
+        slewed: slewed(kind, p),
         constants,
         elements,
         trig,
@@ -127,11 +130,15 @@ pub fn antinit2(parm: [f32; 20], lent: &mut [f32]) -> Result<SetUp, Refusal>
     ensures lent_after { lent.new ≡ lent_after parm lent.old }
     ensures antenna_value { IfOk result (λ s. s.antenna ≡ beside_of (set_up_of parm (length lent.old))) }
 {
-    let iant = jant(parm[1]);
-    check(iant, parm, lent.len())?;
-    let model = model_of(iant, parm);
+    let kind = check(parm, lent.len())?;
+    let model = model_of(kind, parm);
     let table = table_of(model);
-    let found = gainorm(&model, &table, start_of(iant, parm));
+    let checked = Checked {
+        kind,
+        model: &model,
+        table: &table,
+    };
+    let found = gainorm(checked, start_of(kind, parm));
     if search_refused(found) {
         return Err(Refusal::Pattern);
     }

@@ -7,6 +7,7 @@ use lib.Dec.{T}
 use lib.ListN.{get_or}
 use lib.Ieee.{nan, of_int, sub, mul, le, of_bits}
 use lib.Ieee.Fits.{and_l, and_r}
+use Rattle.std.specs.Float.{float_with_sign}
 use Rattle.numeric.specs.Float.{mag}
 use Rattle.numeric.specs.Rounding.{F}
 use Rattle.sine.specs.Sine.{sine, cosine, quarter, past, next_term, sums, cut, sine_units, cosine_units, sine_at, cosine_at}
@@ -41,7 +42,7 @@ in_bounds : ℕ → Bool
 in_bounds j = cosine_in j && dipoles_in j
 
 tested : T (all in_bounds 91)
-unfolding in_bounds dipoles_in dipole_in cosine_in each_way trig_tables filled_to sine cosine quarter past next_term sums cut sine_units cosine_units sine_at cosine_at F of_int sub mul le of_bits
+unfolding in_bounds dipoles_in dipole_in cosine_in each_way trig_tables filled_to sine cosine quarter past next_term sums cut sine_units cosine_units sine_at cosine_at F of_int sub mul le of_bits float_with_sign
 tested = tt
 
 inside : (j : ℕ) → j ≤ 90 → T (cosine_in j && dipoles_in j)

@@ -19,7 +19,7 @@ use Rattle.floats.specs.Ops.{◌⊕◌, ◌⊖◌, +0}
 use Rattle.floats.specs.Literals.{one}
 use Rattle.floats.proofs.Halves.{Between, whole-between, add-between, sub-between}
 use Rattle.words.specs.Laid.{laid}
-use Rattle.words.proofs.Laid.{take-laid}
+use Rattle.words.proofs.Laid.{take_laid}
 use Rattle.model.specs.Limits.{slot}
 use Rattle.model.specs.Table.{table_size}
 use Rattle.model.specs.Types.{jant_of}
@@ -70,7 +70,7 @@ found_umax m t start = go (last_searched m.iant m.slewed)
 
 -- ---- the lent table begins with set-up's own
 begins : (lent s : List Float) (n : ℕ) → n ≡ length s → take n (laid lent 0 s) ≡ take n s
-begins lent s n e = take-laid lent 0 s n (omega arith) (omega arith) ∙ sym (ap (λ (k : ℕ). take k s) e ∙ take-length s)
+begins lent s n e = take_laid lent 0 s n (omega arith) (omega arith) ∙ sym (ap (λ (k : ℕ). take k s) e ∙ take-length s)
 
 module _ (p lent : List Float) {a : Antenna} {n : ℕ} (h : set_up_of p (length lent) ≡ accepted (a, n)) where
   abbrev made : Model

@@ -4,6 +4,8 @@ ghost use Rattle.words.specs.Laid.{laid};
 ghost use Rattle.words.specs.Patterns.{part};
 ghost use Rattle.antenna_words.specs.Fields.{low};
 
+use std::array;
+
 pub(crate) fn put_counts(out: &mut [u32], at: usize, ns: &[usize])
     requires { at + length ns.now ≤ length out.old }
     ensures { out.new ≡ laid out.old at (map low ns.now) }
@@ -13,13 +15,10 @@ pub(crate) fn put_counts(out: &mut [u32], at: usize, ns: &[usize])
     }
 }
 
-// Reads counts over all of out, from word `at` on.
-#[tactic(auto, using(words::proofs::Copies::copied_none, words::proofs::Copies::copied_more, words::proofs::Copies::copied_all))]
-pub(crate) fn read_counts(words: &[u32], at: usize, out: &mut [usize])
-    requires { at + length out.old ≤ length words.now }
-    ensures { out.new ≡ part words.now at (length out.old) }
+// As many counts as the array has, from word `at` on.
+pub(crate) fn counts_at<const N: usize>(words: &[u32], at: usize) -> [usize; N]
+    requires { at + N ≤ length words.now }
+    ensures { result ≡ part words.now at N }
 {
-    for i in 0..out.len() {
-        out[i] = words[at + i] as usize;
-    }
+    array::from_fn(|k| words[at + k] as usize)
 }

@@ -3,12 +3,11 @@ ghost use Rattle.std.specs.Prelude.{◌≡◌, ◌+◌, ◌≤◌, length};
 ghost use Rattle.words.specs.Patterns.{floats};
 ghost use Rattle.antenna_words.specs.Reading.{constants_of, elements_of, trig_of, ground_of, peak_of, antenna_of, antenna_in};
 
-use crate::counts::read_counts;
+use crate::counts::counts_at;
 use antenna::record::Antenna;
 use model::record::{Constants, Elements, Ground, Model, Trig};
-use packed::arrays::floats_at;
+use packed::arrays::{floats_at, floats_in};
 use search::record::Peak;
-use words::patterns::read_bits;
 
 // All words as floats, in one go: the counts among them are read from the words.
 #[tactic(auto, using(crate::proofs::Places::whole))]
@@ -16,9 +15,7 @@ fn all_floats(words: &[u32]) -> [f32; 998]
     requires { length words.now ≡ 998 }
     ensures { result ≡ floats words.now }
 {
-    let mut out = [0.0f32; 998];
-    read_bits(words, 0, &mut out);
-    out
+    floats_in(words, 0)
 }
 
 #[tactic(auto, unfolding(crate::specs::Reading::constants_of))]
@@ -50,14 +47,12 @@ fn elements_of(words: &[u32], fs: &[f32]) -> Elements
     requires { (length words.now ≡ 998) × (length fs.now ≡ 998) }
     ensures { result ≡ elements_of words.now fs.now }
 {
-    let mut iek = [0; 36];
-    read_counts(words, 162, &mut iek);
     Elements {
         fi: floats_at(fs, 18),
         rim: floats_at(fs, 54),
         x: floats_at(fs, 90),
         y: floats_at(fs, 126),
-        iek,
+        iek: counts_at(words, 162),
         rl: floats_at(fs, 198),
         h: floats_at(fs, 234),
         nat: words[265] as usize,

@@ -12,6 +12,7 @@ use lib.Ieee.{Float, nan, inf, fin, binary32, neg, up, down, le, lt, div, round,
 use lib.Ieee.Fits.{up_pos}
 use lib.Ieee.Order.{round_mono}
 use lib.Ieee.Nearest.{div_mono}
+use Rattle.std.specs.Float.{float_with_sign}
 use Rattle.arctangent.specs.Arctangent.{halved, next_power, series, angle, one, atan_of, atan_of_size}
 use Rattle.root.specs.Root.{root}
 use Rattle.numeric.specs.Inner.{unsigned}
@@ -139,7 +140,7 @@ inverse_at_most (fin false (suc m) e) u l =
 -- ---- oddness
 
 pub atan_odd : (x : Float) → atan_of (neg x) ≡ neg (atan_of x)
-unfolding atan_of neg is_nan
+unfolding atan_of neg is_nan float_with_sign
 atan_odd nan = refl
 atan_odd (inf true) = sym (neg-neg (atan_of_size (inf false)))
 atan_odd (inf false) = refl

@@ -7,7 +7,7 @@ ghost use Rattle.std.specs.Prelude.{◌≡◌, ◌+◌, ◌*◌, ◌≤◌, ◌<
 ghost use Rattle.arctangent.specs.Arctangent as Spec;
 ghost use Rattle.numeric.specs.Inner.{unsigned};
 
-use numeric::float::{abs, is_sign_negative, with_sign};
+use numeric::float::{is_sign_negative, with_sign};
 use numeric::rounding::{from_units, truncated};
 use root::isqrt;
 
@@ -60,5 +60,5 @@ pub fn atan(a: f32) -> f32
     if a != a {
         return 0.0 / 0.0;
     }
-    with_sign(atan_of_size(abs(a)), is_sign_negative(a))
+    with_sign(atan_of_size(a.abs()), is_sign_negative(a))
 }

@@ -8,14 +8,13 @@ use board_air::accepted::air_ok;
 use board_anew::kept::kept_ok;
 
 // Whether the stations' places are a run's, and what is kept is what they show.
+#[tactic(auto, unfolding(board_air::specs::Words::board_ok))]
 pub(crate) fn board_ok(board: &[u32]) -> bool
     ensures { result ≡ board_ok board.now }
 {
     if board.len() != WORDS {
         return false;
     }
-    if !air_ok(&board[..AIR]) {
-        return false;
-    }
-    kept_ok(&board[..AIR], &board[AIR..])
+    let (air, kept) = board.split_at(AIR);
+    air_ok(air) && kept_ok(air, kept)
 }

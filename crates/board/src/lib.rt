@@ -24,7 +24,7 @@ ghost use Rattle.board.specs.Calls.{empty_answer, empty_leaves, join_answer, joi
 
 use answers::Refusal;
 use board_air::AIR;
-use board_air::change::{clear, enter, remove, row_bits};
+use board_air::change::{enter, remove, row_bits};
 use board_anew::kept::{put_kept, renew};
 use board_kept::kept::{put_nobody, raise};
 use refusal::{check_join, check_leave, check_show};
@@ -33,6 +33,7 @@ use refusal::{check_join, check_leave, check_show};
 pub(crate) const WORDS: usize = 6497;
 
 // An empty board over any words.
+#[tactic(auto, using(crate::proofs::Changes::emptied), unfolding(crate::specs::Calls::empty_answer, crate::specs::Calls::empty_leaves, crate::specs::Calls::unless))]
 pub fn empty(board: &mut [u32]) -> Result<(), Refusal>
     ensures value { number_of result ≡ empty_answer board.old }
     ensures board_after { board.new ≡ empty_leaves board.old }
@@ -40,45 +41,48 @@ pub fn empty(board: &mut [u32]) -> Result<(), Refusal>
     if board.len() != WORDS {
         return Err(Refusal::Space);
     }
-    clear(board, 0, AIR);
-    put_nobody(&mut board[AIR..]);
+    let (air, kept) = board.split_at_mut(AIR);
+    air.fill(0);
+    put_nobody(kept);
     Ok(())
 }
 
 // A station comes on the air, with its id and its plate row.
-#[tactic(auto, using(crate::proofs::Changes::refused_stays), unfolding(crate::specs::Calls::join_leaves))]
+#[tactic(auto, using(crate::proofs::Changes::refused_stays, crate::proofs::Changes::join_asks), unfolding(crate::specs::Calls::join_leaves))]
 pub fn join(board: &mut [u32], id: u32, row: &[f32]) -> Result<(), Refusal>
     ensures value { number_of result ≡ join_answer board.old id row.now }
     ensures board_after { board.new ≡ join_leaves board.old id row.now }
 {
     check_join(board, id, row)?;
-    enter(&mut board[..AIR], id, row);
     let bits = row_bits(row);
-    raise(&mut board[AIR..], id, &bits);
+    let (air, kept) = board.split_at_mut(AIR);
+    enter(air, id, row);
+    raise(kept, id, &bits);
     Ok(())
 }
 
 // A station goes off the air.
-#[tactic(auto, using(crate::proofs::Changes::refused_stays), unfolding(crate::specs::Calls::leave_leaves))]
+#[tactic(auto, using(crate::proofs::Changes::refused_stays, crate::proofs::Changes::leave_asks), unfolding(crate::specs::Calls::leave_leaves))]
 pub fn leave(board: &mut [u32], id: u32) -> Result<(), Refusal>
     ensures value { number_of result ≡ leave_answer board.old id }
     ensures board_after { board.new ≡ leave_leaves board.old id }
 {
     check_leave(board, id)?;
-    remove(&mut board[..AIR], id);
-    let left = board[0] as usize;
-    renew(board, left, id);
+    let (air, kept) = board.split_at_mut(AIR);
+    remove(air, id);
+    renew(kept, air, id);
     Ok(())
 }
 
 // The greatest number at each azimuth and the id that has it.
-#[tactic(auto, using(crate::proofs::Changes::refused_stays), unfolding(crate::specs::Calls::show_numbers, crate::specs::Calls::show_ids))]
+#[tactic(auto, using(crate::proofs::Changes::refused_stays, crate::proofs::Changes::show_asks), unfolding(crate::specs::Calls::show_numbers, crate::specs::Calls::show_ids))]
 pub fn show(board: &[u32], numbers: &mut [f32], ids: &mut [u32]) -> Result<(), Refusal>
     ensures value { number_of result ≡ show_answer board.now (length numbers.old) (length ids.old) }
     ensures numbers_after { numbers.new ≡ show_numbers board.now numbers.old ids.old }
     ensures ids_after { ids.new ≡ show_ids board.now numbers.old ids.old }
 {
     check_show(board, numbers.len(), ids.len())?;
-    put_kept(&board[AIR..], numbers, ids);
+    let (_, kept) = board.split_at(AIR);
+    put_kept(kept, numbers, ids);
     Ok(())
 }

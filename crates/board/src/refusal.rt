@@ -47,6 +47,7 @@ pub(crate) fn check_leave(board: &[u32], id: u32) -> Result<(), Refusal>
 }
 
 // With so many numbers and ids lent to show the board in.
+#[tactic(auto, unfolding(crate::specs::Calls::show_answer))]
 pub(crate) fn check_show(board: &[u32], numbers: usize, ids: usize) -> Result<(), Refusal>
     ensures { number_of result ≡ show_answer board.now numbers ids }
 {

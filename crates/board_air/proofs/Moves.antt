@@ -11,7 +11,7 @@ use lib.Seq.{take_at, drop_at, drop-drop, take-append-le, drop-append-le}
 use lib.Dec.{eqb}
 use borrow.Author.Tests.{eqb-true}
 use Rattle.words.specs.Laid.{laid}
-use Rattle.words.proofs.Laid.{take-laid, laid-length}
+use Rattle.words.proofs.Laid.{take_laid, laid-length}
 use Rattle.board_air.specs.Stations.{Station}
 use Rattle.board_air.specs.Runs.{on, without}
 use Rattle.board_air.specs.Words.{air_size, place_of, places_of, air_of, stations_ok}
@@ -115,7 +115,7 @@ closed words at m size h e =
     let n = length-drop (at + 361) words in
     let room : at + length moved ≤ length words = omega (arith, n) in
     laid_end (laid words at moved) 5416 (replicate m 0) (omega (arith, laid-length words at moved room, length-replicate {A = ℕ} m 0))
-    ∙ ap (λ (r : List ℕ). r ++ replicate m 0) (take-laid words at moved 5416 (omega (arith, n)) (omega arith))
+    ∙ ap (λ (r : List ℕ). r ++ replicate m 0) (take_laid words at moved 5416 (omega (arith, n)) (omega arith))
 
 pub left : (id m : ℕ) {ss : List Station} → OnAir ss → on id ss ≡ true → m ≡ 361
     → let at = 1 + 361 * slot_of id ss in

@@ -9,12 +9,13 @@ ghost use Rattle.board_air.specs.Words.{place_of, air_of, air_ok, stations_on};
 
 use crate::AIR;
 use crate::places::slot_of;
+use numeric::bits::bits_of;
+use std::array;
 use words::patterns::put_bits;
 
 // Zeros over n words from `at` on.
-// Inner step: of `board::empty` too, once the words are as many as a board's.
 #[tactic(auto, unfolding(words::specs::Laid::laid))]
-pub fn clear(words: &mut [u32], at: usize, n: usize)
+pub(crate) fn clear(words: &mut [u32], at: usize, n: usize)
     requires { at + n ≤ length words.old }
     ensures { words.new ≡ laid words.old at (replicate n 0) }
 {
@@ -45,9 +46,7 @@ pub fn row_bits(row: &[f32]) -> [u32; 360]
     requires { length row.now ≡ 360 }
     ensures { result ≡ map (to_bits binary32) row.now }
 {
-    let mut bits = [0u32; 360];
-    put_bits(&mut bits, 0, row);
-    bits
+    array::from_fn(|v| bits_of(row[v]))
 }
 
 // One more, in the place after the others'.

@@ -1,12 +1,11 @@
 // What the board keeps, worked out from the stations' places, and shown.
-ghost use Rattle.std.specs.Prelude.{◌≡◌, true, ◌++◌, ◌+◌, ◌*◌, ◌≤◌, ◌<◌, length, get_or};
+ghost use Rattle.std.specs.Prelude.{◌≡◌, true, ◌+◌, ◌*◌, ◌≤◌, ◌<◌, length, get_or};
 ghost use Rattle.std.specs.Float.{binary32};
 ghost use Rattle.std.specs.Float.Ieee.{of_bits};
 ghost use Rattle.board_air.specs.Stations.{up_to};
-ghost use Rattle.board_air.specs.Words.{air_size, board_size, air_in, kept_in, kept_of, stations_to, stations_on, stations_ok, air_ok, same_words};
+ghost use Rattle.board_air.specs.Words.{air_size, count_in, kept_of, stations_to, stations_on, stations_ok, air_ok, same_words};
 ghost use Rattle.board_kept.specs.Steps.{kept_by, renewed};
 
-use board_air::AIR;
 use board_kept::kept::{put_nobody, raise, raise_vacated, same_words, vacated};
 use words::patterns::read_bits;
 
@@ -27,6 +26,7 @@ fn afresh(air: &[u32], n: usize) -> [u32; 720]
 
 // Whether what is kept is what those on the air show.
 // Inner step: of `board`'s test of its words, once the air is accepted.
+#[tactic(auto, using(crate::proofs::Parts::air_counts), unfolding(board_air::specs::Words::stations_on))]
 pub fn kept_ok(air: &[u32], kept: &[u32]) -> bool
     requires { (air_ok air.now ≡ true) × (length kept.now ≡ 720) }
     ensures { result ≡ same_words kept.now (kept_of (stations_on air.now)) }
@@ -50,22 +50,15 @@ fn anew(air: &[u32], n: usize, kept: &[u32], gone: u32) -> [u32; 720]
     left
 }
 
-// The same of a board.
-fn kept_without(board: &[u32], n: usize, gone: u32) -> [u32; 720]
-    requires { (length board.now ≡ board_size) × (n ≤ 16) × (stations_ok (stations_to (air_in board.now) n) ≡ true) }
-    ensures { result ≡ kept_by (renewed gone (stations_to (air_in board.now) n) (kept_in board.now)) }
-{
-    anew(&board[..AIR], n, &board[AIR..], gone)
-}
-
-// One gone, with n left.
+// One gone, with those left on the air.
 // Inner step: of `board::leave`, past its refusals.
-pub fn renew(board: &mut [u32], n: usize, gone: u32)
-    requires { (length board.old ≡ board_size) × (n ≤ 16) × (stations_ok (stations_to (air_in board.old) n) ≡ true) }
-    ensures { board.new ≡ air_in board.old ++ kept_by (renewed gone (stations_to (air_in board.old) n) (kept_in board.old)) }
+#[tactic(auto, unfolding(board_air::specs::Words::stations_on))]
+pub fn renew(kept: &mut [u32], air: &[u32], gone: u32)
+    requires { (length air.now ≡ air_size) × (count_in air.now ≤ 16) × (stations_ok (stations_on air.now) ≡ true) × (length kept.old ≡ 720) }
+    ensures { kept.new ≡ kept_by (renewed gone (stations_on air.now) kept.old) }
 {
-    let left = kept_without(board, n, gone);
-    board[AIR..].copy_from_slice(&left);
+    let left = anew(air, air[0] as usize, kept, gone);
+    kept.copy_from_slice(&left);
 }
 
 // What is kept, over the lent numbers and ids.

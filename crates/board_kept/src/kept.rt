@@ -33,6 +33,7 @@ fn entry_in(kept: &[u32], v: usize) -> Entry
     }
 }
 
+#[tactic(auto, unfolding(crate::specs::Steps::entry))]
 fn put_entry(kept: &mut [u32], v: usize, entry: Entry)
     requires { (length kept.old ≡ 720) × (v < 360) }
     ensures { kept.new ≡ set (set kept.old v entry.bits) (360 + v) entry.id }

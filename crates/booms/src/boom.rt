@@ -1,9 +1,9 @@
 // The log-periodic antennas, types 5 and 6, at one direction.
-ghost use Rattle.std.specs.Prelude.{◌≡◌, true, ◌≤◌, length};
+ghost use Rattle.std.specs.Prelude.{◌≡◌, ◌≤◌, length};
 ghost use Rattle.model.specs.Table.{table_size};
-ghost use Rattle.model.specs.Counts.{elements_ok};
 ghost use Rattle.booms.specs.Boom.{entry_at, element_at, gamma_of, across_below, across_factor, upright_factor, add_across, add_upright, added, field_to, both_fields, one_field};
 
+use model::checked::Checked;
 use model::record::{Constants, Direction, Elements, Entry};
 use model::table::{PART, ROW};
 
@@ -148,20 +148,14 @@ fn add_element(
     add_across(fti, gamma * el.x + el.fi * Q1, w, s)
 }
 
-// The sums over the active elements.
-// Inner step: of `pattern`, whose callers refuse other records and shorter tables first.
-#[tactic(auto, using(model::proofs::ActiveElements::active_below), unfolding(crate::specs::Boom::field_to))]
-pub fn field_of(
-    upright: bool,
-    k: Constants,
-    e: &Elements,
-    table: &[f32],
-    iu: usize,
-    d: Direction,
-) -> Field
-    requires { (e.now.nat ≤ 30) × (elements_ok e.now.iek e.now.nat ≡ true) × (iu ≤ 90) × (table_size ≤ length table.now) }
-    ensures { result ≡ field_to upright k e.now table.now iu d e.now.nat }
+// The sums over the active elements. Inner step: of `pattern`.
+#[tactic(auto, using(model::proofs::ActiveElements::few_active, model::proofs::ActiveElements::named_below), unfolding(crate::specs::Boom::field_to))]
+pub fn field_of(c: Checked<'_>, upright: bool, iu: usize, d: Direction) -> Field
+    requires { iu ≤ 90 }
+    ensures { result ≡ field_to upright c.entry.model.now.constants c.entry.model.now.elements c.entry.table.now iu d c.entry.model.now.elements.nat }
 {
+    let k = c.model.constants;
+    let e = &c.model.elements;
     let gamma = gamma_of(k, d);
     let df = across_below(d);
     let mut s = Field {
@@ -172,7 +166,7 @@ pub fn field_of(
     };
     for n in 0..e.nat {
         let i = e.iek[n + 1];
-        let w = entry_at(table, iu, i);
+        let w = entry_at(c.table, iu, i);
         s = add_element(upright, k.beta, gamma, df, d, element_at(e, i), w, s);
     }
     s

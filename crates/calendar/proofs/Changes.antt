@@ -4,17 +4,20 @@ use mathlib.Core.Path.{◌≡◌, refl}
 use mathlib.Core.Bool.{true, false, cond}
 use mathlib.Core.Logic.{⊎_elim}
 use Rattle.std.specs.Prelude.{Option, None, Some}
+use Rattle.std.specs.Ordering.{partial_lt}
 use native.Mathlib.Omega.{arith}
+use native.Mathlib.Numerals.{add-one}
 use lib.Dec.{eqb}
 use borrow.Author.Tests.{lt-ltb, le-ltb, eq-eqb, ne_eqb}
 use Rattle.calendar.specs.declared.time.Time.{Time}
 use Rattle.calendar.specs.Days.{month_length, last_sunday}
 use Rattle.calendar.specs.Times.{is_time, minutes, before}
 use Rattle.calendar.specs.Seasons.{change, to_a, to_b, changes_from, first_after, next_change}
+use Rattle.calendar.specs.contracts.time.TimePartialOrd.TheImpl.{partial_cmp-value}
 use Rattle.calendar.proofs.Tests.{le_or_lt}
 use Rattle.calendar.proofs.Days.{march_counted, october_counted}
 use Rattle.calendar.proofs.Sundays.{last-sunday, last-sunday-by-remainder}
-use Rattle.calendar.proofs.Times.{Real, real, is_time_lem, earlier_year}
+use Rattle.calendar.proofs.Times.{Real, real, is_time_lem, earlier_year, in_order_of_time}
 
 -- ---- their days, as the code works them out
 
@@ -42,11 +45,15 @@ change_is_time year month a b c d =
     let sunday = last-sunday year month c d in
     is_time_lem (change year month) a b sunday.from sunday.to (omega arith)
 
--- so a change of a time's own year can be set against it
-pub comparable : (t c : Time) (month : ℕ) → is_time t ≡ true → 1 ≤ month → month ≤ 12 → c ≡ change t.year month → (is_time t ≡ true) × (is_time c ≡ true) × (t.year ≡ c.year)
-comparable t c month h from to e =
-    let r = real t h in
-    rw e (h, change_is_time t.year month r.year_from r.year_to from to, refl)
+-- so the changes of a time's own year can be set against it
+pub in_years : (t : Time) → is_time t ≡ true → (2000 ≤ t.year) × (t.year ≤ 2099)
+in_years t h = let r = real t h in (r.year_from, r.year_to)
+
+pub before_a : (t : Time) → is_time t ≡ true → partial_lt partial_cmp-value.it t (to_a t.year) ≡ before t (to_a t.year)
+before_a t h = let r = real t h in in_order_of_time t (to_a t.year) h (change_is_time t.year 3 r.year_from r.year_to (omega arith) (omega arith))
+
+pub before_b : (t : Time) → is_time t ≡ true → partial_lt partial_cmp-value.it t (to_b t.year) ≡ before t (to_b t.year)
+before_b t h = let r = real t h in in_order_of_time t (to_b t.year) h (change_is_time t.year 10 r.year_from r.year_to (omega arith) (omega arith))
 
 pub change_real : (year month : ℕ) → 2000 ≤ year → year ≤ 2099 → 1 ≤ month → month ≤ 12 → Real (change year month)
 change_real year month a b c d = real (change year month) (change_is_time year month a b c d)
@@ -87,3 +94,9 @@ module _ (t : Time) (r : Real t) where
   pub next_in_year_lem : next_change t ≡ next_in_year
   unfolding next_change
   next_in_year_lem = reached 100 2000 (omega arith) r.year_from refl
+
+pub next_of_two : (t : Time) → is_time t ≡ true → next_change t ≡ cond (before t (to_a t.year)) (Some (to_a t.year)) (cond (before t (to_b t.year)) (Some (to_b t.year)) (cond (eqb t.year 2099) None (Some (to_a (t.year + 1)))))
+next_of_two t h = rw add-one (next_in_year_lem t (real t h))
+
+pub next_year_first : (t : Time) → is_time t ≡ true → before t (to_a t.year) ≡ false → before t (to_b t.year) ≡ false → (t.year ≡ 2099 → ⊥) → next_change t ≡ Some (to_a (t.year + 1))
+next_year_first t h a b c = simp (next_of_two t h, a, b, ne_eqb t.year 2099 c)

@@ -1,17 +1,20 @@
 -- What a time of the calendar is, and the order of two. Assumes nothing.
 use Prim.Native.Nat.{ℕ, zero, suc, ◌+◌, ◌-◌, ◌*◌, ◌≤◌, ◌<◌}
-use mathlib.Core.Path.{◌≡◌, refl, sym, ap}
+use mathlib.Core.Path.{◌≡◌, refl, ap}
 use mathlib.Core.Bool.{Bool, true, false, cond, ◌&&◌, and-eq-true_iff}
 use mathlib.Core.Logic.{⊎_elim}
 use native.Mathlib.Omega.{arith}
-use lib.Dec.{ltb, leb}
+use lib.Dec.{leb}
 use borrow.Author.Tests.{leb-true, le-leb}
+use Rattle.std.specs.Ordering.{partial_lt}
+use Rattle.std.proofs.lemmas.Bool.Decides.{nat_tests}
 use Rattle.answers.specs.Refusals.{CALENDAR}
 use Rattle.calendar.specs.declared.time.Time.{Time}
 use Rattle.calendar.specs.Days.{month_length, days_of_months, days_of_years, days_after}
-use Rattle.calendar.specs.Times.{is_date, is_time, refusal_of, minutes}
-use Rattle.calendar.proofs.Tests.{le_or_lt, same_test}
-use Rattle.calendar.proofs.Days.{month_usual, month_real, months_grow, years_grow}
+use Rattle.calendar.specs.Times.{is_date, is_time, refusal_of, minutes, before}
+use Rattle.calendar.specs.contracts.time.TimePartialOrd.TheImpl.{partial_cmp-value}
+use Rattle.calendar.proofs.Tests.{le_or_lt}
+use Rattle.calendar.proofs.Days.{month_real, months_grow, years_grow}
 
 -- what the test says
 pub record Real (t : Time) : Type 0 where
@@ -21,7 +24,6 @@ pub record Real (t : Time) : Type 0 where
   pub month-to : t.month ≤ 12
   pub day-from : 1 ≤ t.day
   pub day-to : t.day ≤ month_length t.year t.month
-  pub day-short : t.day ≤ 31
   pub minute-to : t.minute ≤ 1439
 
 pub real : (t : Time) → is_time t ≡ true → Real t
@@ -35,7 +37,6 @@ real t h =
     let from : 1 ≤ t.day = leb-true 1 t.day day-from.1 in
     let to : t.day ≤ month_length t.year t.month = leb-true t.day (month_length t.year t.month) day-to.1 in
     let month = month_real t.year t.month (omega arith) in
-    let usual = month_usual t.year t.month month.0 month.1 in
     record {
       year_from = leb-true 2000 t.year years.0;
       year_to = leb-true t.year 2099 years.1;
@@ -43,7 +44,6 @@ real t h =
       month-to = month.1;
       day-from = from;
       day-to = to;
-      day-short = omega arith;
       minute-to = leb-true t.minute 1439 minute.1;
     }
 
@@ -74,10 +74,6 @@ in_year year month from to =
     let e : 2000 + (year - 2000) ≡ year = omega arith in
     omega (arith, months_grow year month 12 to, ap (λ (y : ℕ). days_of_months y 12) e)
 
--- the later of two times of a year has the greater number
-abbrev pub place_of : Time → ℕ
-place_of t = (t.month * 32 + t.day) * 1440 + t.minute
-
 module _ (s t : Time) (rs : Real s) (rt : Real t) where
   from_month : days_of_months s.year (s.month - 1) + s.day ≤ days_of_months s.year s.month
   from_month = in_month s.year s.month s.day rs.month-from rs.day-to
@@ -101,10 +97,12 @@ module _ (s t : Time) (rs : Real s) (rt : Real t) where
   )
 
   -- in one month both count alike
-  one-month : s.year ≡ t.year → s.month ≡ t.month → minutes s + place_of t ≡ minutes t + place_of s
+  one-month : s.year ≡ t.year → s.month ≡ t.month → minutes s + (t.day * 1440 + t.minute) ≡ minutes t + (s.day * 1440 + s.minute)
   unfolding minutes days_after
   one-month same e = omega (
     arith,
+    rs.day-from,
+    rt.day-from,
     ap (λ (y : ℕ). days_of_years (y - 2000) + days_of_months y (s.month - 1)) same,
     ap (λ (m : ℕ). days_of_months t.year (m - 1)) e,
   )
@@ -116,13 +114,19 @@ year_order s t rs rt h = ⊎_elim
     (λ (later : t.year < s.year). absurd (omega (arith, earlier_year t s rt rs later)))
     (le_or_lt s.year t.year)
 
-pub in_order : (s t : Time) → Real s → Real t → s.year ≡ t.year → ltb (place_of s) (place_of t) ≡ ltb (minutes s) (minutes t)
-in_order s t rs rt same =
-    let by_parts = same_test (suc (place_of s)) (place_of t) (suc (minutes s)) (minutes t) in
-    ⊎_elim
-    (λ (p : s.month ≤ t.month). ⊎_elim
-    (λ (q : t.month ≤ s.month). let counts = one-month s t rs rt same (omega arith) in by_parts (λ h. omega arith) (λ h. omega arith))
-    (λ (q : s.month < t.month). let less = earlier-month s t rs rt same q in by_parts (λ h. less) (λ h. absurd (omega arith)))
-    (le_or_lt t.month s.month))
-    (λ (p : t.month < s.month). let less = earlier-month t s rt rs (sym same) p in by_parts (λ h. absurd (omega arith)) (λ h. omega arith))
-    (le_or_lt s.month t.month)
+-- so times in their derived order are in the order of time
+pub in_order_of_time : (s t : Time) → is_time s ≡ true → is_time t ≡ true → partial_lt partial_cmp-value.it s t ≡ before s t
+in_order_of_time s t a b =
+    let rs = real s a in
+    let rt = real t b in
+    grind (
+      arith,
+      nat_tests,
+      earlier_year s t rs rt,
+      earlier_year t s rt rs,
+      earlier-month s t rs rt,
+      earlier-month t s rt rs,
+      one-month s t rs rt,
+      rs.minute-to,
+      rt.minute-to,
+    )

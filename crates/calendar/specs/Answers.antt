@@ -7,8 +7,6 @@ use Rattle.calendar.specs.declared.seasons.BroadcastSeason.{BroadcastSeason}
 use Rattle.calendar.specs.Seasons.{season_at, next_change}
 use Rattle.calendar.specs.Hours.{is_open, hours_refusal}
 
--- ---- the answers
-
 abbrev pub answered : {X : Type 0} → ℕ → X → Outcome X
 answered number x = cond (ltb 0 number) (refused number) (accepted x)
 

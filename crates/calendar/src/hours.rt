@@ -7,6 +7,7 @@ ghost use Rattle.calendar.specs.Answers.{open_of};
 use answers::Refusal;
 
 // Three minutes of the day, or the refusal.
+#[tactic(auto, unfolding(crate::specs::Hours::hours_refusal))]
 fn check(first: u32, end: u32, minute: u32) -> Result<(), Refusal>
     ensures { number_of result ≡ hours_refusal first end minute }
 {
@@ -18,6 +19,7 @@ fn check(first: u32, end: u32, minute: u32) -> Result<(), Refusal>
 }
 
 // Past midnight and, as the two halves of the day then, all day.
+#[tactic(auto, unfolding(crate::specs::Hours::is_open))]
 fn is_open(first: u32, end: u32, minute: u32) -> bool
     ensures { result ≡ is_open first end minute }
 {

@@ -1,6 +1,6 @@
 // The season at a time, and the next change.
-ghost use Rattle.std.specs.Prelude.{◌≡◌, true, ◌+◌, ◌-◌, ◌*◌, ◌/◌, ◌%◌, ◌≤◌};
-ghost use Rattle.calendar.specs.Times.{is_time, before};
+ghost use Rattle.std.specs.Prelude.{◌≡◌, true, ◌+◌, ◌-◌, ◌/◌, ◌%◌, ◌≤◌};
+ghost use Rattle.calendar.specs.Times.{is_time};
 ghost use Rattle.calendar.specs.Seasons.{to_a, to_b, season_at, next_change};
 ghost use Rattle.answers.specs.Outcome.{outcome};
 ghost use Rattle.calendar.specs.Answers.{season_of, next_of};
@@ -17,65 +17,48 @@ pub enum BroadcastSeason {
 // A change comes at 01:00.
 const AT_MINUTE: u32 = 60;
 
-// The last Sunday of a month of 31 days, whose last day in 2000 was `past` days past a Sunday. That
-// day moves on by a weekday each year, and by another where a 29 February lies between.
-fn last_sunday(year: u32, past: u32) -> u32
+// The change on the last Sunday of a month of 31 days, whose last day in 2000 was `past` days past a
+// Sunday. That day moves on by a weekday each year, and by another where a 29 February lies between.
+fn change(year: u32, month: u32, past: u32) -> Time
     requires { (2000 ≤ year) × (year ≤ 2099) × (past ≤ 6) }
-    ensures { result ≡ 31 - (year - 2000 + (year - 2000) / 4 + past) % 7 }
+    ensures { result ≡ record { year = year; month = month; day = 31 - (year - 2000 + (year - 2000) / 4 + past) % 7; minute = 60 } }
 {
     let years = year - 2000;
-    31 - (years + years / 4 + past) % 7
+    Time {
+        year,
+        month,
+        day: 31 - (years + years / 4 + past) % 7,
+        minute: AT_MINUTE,
+    }
 }
 
 // The change to A. 31 March 2000 was a Friday.
+#[tactic(auto, using(crate::proofs::Changes::march_day))]
 fn to_a(year: u32) -> Time
     requires { (2000 ≤ year) × (year ≤ 2099) }
     ensures { result ≡ to_a year }
 {
-    Time {
-        year,
-        month: 3,
-        day: last_sunday(year, 5),
-        minute: AT_MINUTE,
-    }
+    change(year, 3, 5)
 }
 
 // The change to B. 31 October 2000 was a Tuesday.
+#[tactic(auto, using(crate::proofs::Changes::october_day))]
 fn to_b(year: u32) -> Time
     requires { (2000 ≤ year) × (year ≤ 2099) }
     ensures { result ≡ to_b year }
 {
-    Time {
-        year,
-        month: 10,
-        day: last_sunday(year, 2),
-        minute: AT_MINUTE,
-    }
+    change(year, 10, 2)
 }
 
-// The later of two times of a year has the greater number: months count as if each had 32 days.
-fn place(t: Time) -> u32
-    requires { is_time t ≡ true }
-    ensures { result ≡ (t.month * 32 + t.day) * 1440 + t.minute }
-{
-    (t.month * 32 + t.day) * 1440 + t.minute
-}
-
-fn is_before(t: Time, c: Time) -> bool
-    requires { (is_time t ≡ true) × (is_time c ≡ true) × (t.year ≡ c.year) }
-    ensures { result ≡ before t c }
-{
-    place(t) < place(c)
-}
-
+#[tactic(auto, using(crate::proofs::Changes::in_years, crate::proofs::Changes::before_a, crate::proofs::Changes::before_b), unfolding(crate::specs::Seasons::season_at))]
 fn season_at(t: Time) -> BroadcastSeason
     requires { is_time t ≡ true }
     ensures { result ≡ season_at t }
 {
-    if is_before(t, to_a(t.year)) {
+    if t < to_a(t.year) {
         return BroadcastSeason::B;
     }
-    if is_before(t, to_b(t.year)) {
+    if t < to_b(t.year) {
         return BroadcastSeason::A;
     }
     BroadcastSeason::B
@@ -91,16 +74,17 @@ pub fn season(t: Time) -> Result<BroadcastSeason, Refusal>
 }
 
 // The first change of a time's year or the next that is later.
+#[tactic(auto, using(crate::proofs::Changes::in_years, crate::proofs::Changes::before_a, crate::proofs::Changes::before_b, crate::proofs::Changes::next_of_two, crate::proofs::Changes::next_year_first))]
 fn next_after(t: Time) -> Option<Time>
     requires { is_time t ≡ true }
     ensures { result ≡ next_change t }
 {
     let march = to_a(t.year);
-    if is_before(t, march) {
+    if t < march {
         return Some(march);
     }
     let october = to_b(t.year);
-    if is_before(t, october) {
+    if t < october {
         return Some(october);
     }
     if t.year == 2099 {

@@ -6,8 +6,8 @@ ghost use Rattle.calendar.specs.Times.{is_date, refusal_of};
 
 use answers::Refusal;
 
-// A date and a minute of the day in UTC; January is month 1.
-#[derive(Clone, Copy, Debug, PartialEq, Eq)]
+// A date and a minute of the day in UTC, in the order of time; January is month 1.
+#[derive(Clone, Copy, Debug, PartialEq, Eq, PartialOrd, Ord)]
 pub struct Time {
     pub year: u32,
     pub month: u32,
@@ -18,6 +18,7 @@ pub struct Time {
 // The months' days in a year that isn't a leap year; there is no month 0.
 const LENGTHS: [u32; 13] = [0, 31, 28, 31, 30, 31, 30, 31, 31, 30, 31, 30, 31];
 
+#[tactic(auto, unfolding(crate::specs::Days::leap))]
 fn is_leap(year: u32) -> bool
     ensures { result ≡ leap year }
 {
@@ -36,6 +37,7 @@ fn month_length(year: u32, month: u32) -> u32
     LENGTHS[month as usize]
 }
 
+#[tactic(auto, unfolding(crate::specs::Times::is_date))]
 fn is_date(t: Time) -> bool
     ensures { result ≡ is_date t }
 {
@@ -43,6 +45,7 @@ fn is_date(t: Time) -> bool
 }
 
 // A time of these years, or the refusal.
+#[tactic(auto, unfolding(crate::specs::Times::refusal_of, crate::specs::Times::is_time))]
 pub(crate) fn check(t: Time) -> Result<(), Refusal>
     ensures { number_of result ≡ refusal_of t }
 {

@@ -1,10 +1,12 @@
 -- Issue 27: "the peak's azimuth and number, front-to-back, elevation, MHz and the antenna's name in words". Definitions only.
-use Rattle.std.specs.Prelude.{ℕ, Bool, cond, List, [], ◌∷◌, ◌++◌, eqb}
+use Rattle.std.specs.Prelude.{ℕ, Bool, cond, List, [], ◌∷◌, ◌++◌, eqb, Option, Some, None}
 use Rattle.quoted.specs.Quoted.{quoted}
 use Rattle.compass.specs.declared.Point.{Point}
 use Rattle.labels.specs.Writing.{whole, reading}
 use Rattle.figures.specs.Figures.{difference}
 use Rattle.captions.specs.declared.Heading.{Heading}
+use Rattle.captions.specs.declared.Mast.{Mast}
+use Rattle.captions.specs.declared.Mast.TheVariants as mast
 
 -- what a table has beside n, the first such line; other, where there is none
 unfoldable pub beside : List (ℕ × List ℕ) → List ℕ → ℕ → List ℕ
@@ -72,12 +74,11 @@ all_floor_text = quoted "<text x='150' y='7820'>floor all round: -30 dBi or less
 unfoldable pub silence_text : List ℕ
 silence_text = quoted "<text x='4000' y='2800' font-size='600' text-anchor='middle' stroke='#fff' stroke-width='160' paint-order='stroke'>silence</text>\n"
 
--- which of two masts a refusal is of: 1 the first, 2 the second; any other number is a mast by itself
-abbrev pub masts : List (ℕ × List ℕ)
-masts = (1, quoted "A: ") ∷ (2, quoted "B: ") ∷ []
-
-unfoldable pub mast_of : ℕ → List ℕ
-mast_of n = beside masts [] n
+-- which of two masts a refusal is of, where there are two
+unfoldable pub mast_of : Option Mast → List ℕ
+mast_of None = []
+mast_of (Some mast.A) = quoted "A: "
+mast_of (Some mast.B) = quoted "B: "
 
 -- why a plate was refused, for people; the other numbers are no plate's
 abbrev pub sentences : List (ℕ × List ℕ)

@@ -28,14 +28,13 @@ lines_from text at = cond (leb at (length text)) (lines_of (drop at text)) []
 -- i lines were passed, and the next starts at `at`
 pub record Walk (text : List ℕ) (i at : ℕ) : Type 0 where
   pub left : drop i (card_of text) ≡ map words_of (lines_from text at)
-  pub bounded : at ≤ length text + 1
   pub counted : i ≤ at
 
 pub walk_start : (text : List ℕ) (at : ℕ) → at ≡ start_of text → Walk text 0 at
 unfolding card_of lines_from
 walk_start text at e =
     let inside : at ≤ length text = omega (arith, start-inside text) in
-    record { left = rw (le-leb at (length text) inside, e); bounded = omega arith; counted = omega arith }
+    record { left = rw (le-leb at (length text) inside, e); counted = omega arith }
 
 -- at the end all lines were passed
 pub walk_end : {text : List ℕ} {i at : ℕ} → Walk text i at → length text < at → length (card_of text) ≤ i
@@ -78,7 +77,6 @@ module _ {text : List ℕ} {i at to : ℕ} (w : Walk text i at) (h : at ≤ leng
   walk_on =
       record {
         left = ap (λ (k : ℕ). drop k (card_of text)) (sym (add-one i)) ∙ sym (drop-drop 1 i (card_of text)) ∙ ap (drop 1) left_here;
-        bounded = omega (arith, inside);
         counted = omega (arith, forward, w.counted);
       }
 

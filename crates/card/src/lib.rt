@@ -34,7 +34,7 @@ use fields::Kind;
 use station::Station;
 
 // A card's station, with the three numbers after its record.
-#[derive(Clone, Copy)]
+#[derive(Clone, Copy, Debug, PartialEq)]
 pub struct Reading {
     pub station: Station,
     pub mhz: f32,

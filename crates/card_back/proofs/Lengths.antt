@@ -10,7 +10,7 @@ use lib.Dec.{eqb, lit≤}
 use lib.ListN.{length, replicate, length-append, length-replicate}
 use lib.Ieee.{Float}
 use Rattle.quoted.specs.Quoted.{quoted}
-use Rattle.typed.proofs.Laws.{typed-length}
+use Rattle.typed.proofs.Laws.{typed_length}
 use Rattle.fields.specs.declared.Kind.{Kind}
 use Rattle.fields.specs.Names.{TYPE, FIELDS, name_of}
 use Rattle.fields.specs.Table.{CURTAIN, has_field, count_of, first_place}
@@ -20,7 +20,7 @@ use Rattle.card_back.proofs.Rows.{most_of, at_most}
 
 -- ---- texts one after the other, each with a bound
 
-pub total : (ℕ → ℕ) → ℕ → ℕ
+unfoldable pub total : (ℕ → ℕ) → ℕ → ℕ
 total bound zero = 0
 total bound (suc n) = total bound n + bound n
 
@@ -49,7 +49,7 @@ word-length kind f x = go (eqb f TYPE && eqb kind.iant CURTAIN) refl
   where
     go : (b : Bool) → (eqb f TYPE && eqb kind.iant CURTAIN) ≡ b → length (word_of kind f x) ≤ 86
     go true e = rw e (lit≤ tt)
-    go false e = rw e (typed-length x)
+    go false e = rw e (typed_length x)
 
 pub label-length : (f : ℕ) → length (label f) ≡ 11
 unfolding label
@@ -79,7 +79,7 @@ module _ (kind : Kind) (place : ℕ → Float) where
 unfoldable pub room_of : ℕ → ℕ
 room_of i = 12 + 87 * most_of (suc i)
 
-all_room : total room_of FIELDS ≡ 6228
+pub all_room : total room_of FIELDS ≡ 6228
 unfolding total room_of most_of
 all_room = refl
 

@@ -2,14 +2,12 @@
 use mathlib.Core.Path.{◌≡◌, refl, sym, ap, ◌∙◌}
 use mathlib.Core.Bool.{true, false}
 use mathlib.Core.List.{List}
-use Prim.Native.Nat.{ℕ, ◌≤◌, ◌<◌}
-use native.Mathlib.Omega.{arith}
+use Prim.Native.Nat.{ℕ}
 use lib.ListN.{length, take}
-use borrow.Author.Tests.{eq-eqb, ne_eqb, lt-ltb, le-ltb}
+use borrow.Author.Tests.{eq-eqb, ne_eqb}
 use Rattle.answers.specs.Outcome.{Outcome, refused, accepted, outcome}
 use Rattle.answers.specs.declared.Refusal.{Refusal}
-use Rattle.answers.specs.Refusals.{RECORD, SPACE}
-use Rattle.words.specs.Writing.{Wrote}
+use Rattle.answers.specs.Refusals.{RECORD}
 use Rattle.lines.specs.Alike.{alike}
 use Rattle.station.specs.Answers as station
 use Rattle.std.specs.Prelude.{Result, Ok, Err}
@@ -39,26 +37,6 @@ module _ (text lent made bytes : List ℕ) (len : length lent ≡ 237) where
       go : (r : Result Reading Mistake) → ◌≡◌ {A = Result (Unit {0}) NoStation × List ℕ} (Err n, made) (written r lent) → false ≡ makes r bytes
       go (Ok r) q = let answered : ◌≡◌ {A = Result (Unit {0}) NoStation} (Err n) (Ok tt) = ap (λ (p : Result (Unit {0}) NoStation × List ℕ). p.0) q in cc
       go (Err m) q = refl
-
--- ---- the card that is delivered
-
-module _ (text bytes lent : List ℕ) where
-  abbrev delivered : Outcome ℕ × List ℕ
-  delivered = delivered_to lent (read_back text bytes)
-
-  pub not-read : reads text bytes ≡ false → ◌≡◌ {A = Outcome ℕ × List ℕ} (refused RECORD, lent) delivered
-  unfolding read_back delivered_to
-  not-read e = rw e
-
-  pub no_room : reads text bytes ≡ true → length lent < 8192 → ◌≡◌ {A = Outcome ℕ × List ℕ} (refused SPACE, lent) delivered
-  unfolding read_back delivered_to
-  no_room e h = rw (e, lt-ltb (length lent) 8192 h)
-
-  pub in_room : reads text bytes ≡ true → 8192 ≤ length lent → (n : ℕ) (left : List ℕ) → Wrote lent 0 text left n → ◌≡◌ {A = Outcome ℕ × List ℕ} (accepted n, left) delivered
-  unfolding read_back delivered_to
-  in_room e h n left w =
-      let l : n ≡ length text = omega (arith, w.after) in
-      rw (e, le-ltb (length lent) 8192 h, l, w.bytes)
 
 -- ---- the station
 

@@ -13,13 +13,13 @@ ghost use Rattle.card_back.specs.Back.{reads, finite_end, read_back, delivered_t
 ghost use Rattle.card_back.specs.Inner.{Sound};
 ghost use Rattle.card_back.specs.Text.{kind_of, place_in, text_of};
 
-use crate::text::{kind_of, push_text};
+use crate::text::Source;
 use answers::Refusal;
 use lines::same;
 use numeric::float::is_finite;
 use station::Station;
 use words::big_endian::float_at;
-use words::bytes::push_bytes;
+use words::page::{Page, put_page};
 
 // Whether the reader makes these bytes of a text.
 fn reads(text: &[u8], bytes: &[u8]) -> bool
@@ -44,20 +44,20 @@ fn finite_end(bytes: &[u8]) -> bool
 }
 
 // Writes the card of a station's bytes with this record, if it reads back.
+#[tactic(auto, using(words::proofs::Writing::page_has), unfolding(crate::specs::Back::read_back, crate::specs::Back::delivered_to))]
 fn write_card(s: Station, bytes: &[u8], out: &mut [u8]) -> Result<usize, Refusal>
     requires { Sound s bytes.now }
     ensures { (outcome result, out.new) ≡ delivered_to out.old (read_back (text_of (kind_of s) (place_in s bytes.now)) bytes.now) }
 {
-    let mut text = [0u8; 8192];
-    let n = push_text(&mut text, kind_of(s), s, bytes);
-    if !reads(&text[..n], bytes) {
+    let mut page: Page<8192> = Page::new();
+    Source::new(s, bytes).push_text(&mut page);
+    if !reads(page.text(), bytes) {
         return Err(Refusal::Record);
     }
     if out.len() < 8192 {
         return Err(Refusal::Space);
     }
-    push_bytes(out, 0, &text[..n]);
-    Ok(n)
+    Ok(put_page(&page, out))
 }
 
 // Writes the card of a station's 237 bytes over the first of the lent ones, and answers its length.

@@ -1,24 +1,24 @@
 // The card of a station: a line for each field of its kind.
-ghost use Rattle.std.specs.Prelude.{◌≡◌, true, ◌∷◌, ◌+◌, ◌*◌, ◌≤◌, ◌<◌, length, replicate, take};
+ghost use Rattle.std.specs.Prelude.{◌≡◌, true, ◌∷◌, ◌+◌, ◌*◌, ◌≤◌, ◌<◌, length};
 ghost use Rattle.std.specs.Float.Ieee.Scale.{finite};
-ghost use Rattle.words.specs.Writing.{Wrote};
+ghost use Rattle.words.specs.Writing.{Put};
 ghost use Rattle.fields.specs.Table.{count_of};
 ghost use Rattle.card_back.specs.Text.{kind_of, place_in, word_of, in_turn, label, number_text, line_text, field_text, text_of};
 ghost use Rattle.card_back.specs.Inner.{Sound};
 
 use fields::limits::type_number;
-use fields::names::{FIELDS, TYPE, push_name};
+use fields::names::{FIELDS, TYPE, name_of};
 use fields::table::{count_of, first_place, has_field};
 use fields::{CURTAIN, Kind};
 use station::Station;
 use station::fields::float_at;
 use typed::push_typed;
 use words::big_endian;
-use words::bytes::{push, push_bytes};
+use words::page::Page;
 
 // The kind of a station.
 #[tactic(auto, unfolding(crate::specs::Text::kind_of))]
-pub(crate) fn kind_of(s: Station) -> Kind
+fn kind_of(s: Station) -> Kind
     ensures { result ≡ kind_of s }
 {
     let iant = match s.mode {
@@ -28,97 +28,105 @@ pub(crate) fn kind_of(s: Station) -> Kind
     Kind { iant, mode: s.mode }
 }
 
-// Place p of a station's bytes with this record.
-#[tactic(auto, unfolding(crate::specs::Text::place_in))]
-pub(crate) fn place_of(s: Station, bytes: &[u8], p: usize) -> f32
-    requires { (length bytes.now ≡ 237) × (p < 59) }
-    ensures { result ≡ place_in s bytes.now p }
-{
-    if p < 56 {
-        float_at(s, p)
-    } else {
-        big_endian::float_at(bytes, 225 + 4 * (p - 56))
-    }
-}
-
 // A blank, and a field's number.
-fn push_word(out: &mut [u8], at: usize, kind: Kind, f: usize, x: f32) -> usize
-    requires { (at + 87 ≤ length out.old) × (finite x ≡ true) }
-    ensures { Wrote out.old at (32 ∷ word_of kind f x) out.new result }
+#[tactic(auto, unfolding(crate::specs::Text::word_of, quoted::specs::Quoted::quoted))]
+fn push_word<const N: usize>(page: &mut Page<N>, kind: Kind, f: usize, x: f32)
+    requires { (length page.old + 87 ≤ N) × (finite x ≡ true) }
+    ensures { Put 87 page.old (32 ∷ word_of kind f x) page.new }
 {
-    let word_at = push(out, at, b' ');
+    page.push(b' ');
     if (f == TYPE) & (kind.iant == CURTAIN) {
-        return push_bytes(out, word_at, b"curtain");
+        page.push_bytes(b"curtain");
+    } else {
+        push_typed(page, x);
     }
-    push_typed(out, word_at, x)
-}
-
-// The field's numbers.
-fn push_numbers(out: &mut [u8], at: usize, kind: Kind, s: Station, bytes: &[u8], f: usize) -> usize
-    requires { (at + 87 * count_of kind f ≤ length out.old) × Sound s bytes.now }
-    ensures { Wrote out.old at (in_turn (number_text kind (place_in s bytes.now) f) (count_of kind f)) out.new result }
-{
-    let first = first_place(kind, f);
-    let count = count_of(kind, f);
-    let mut end = at;
-    for k in 0..count {
-        let x = place_of(s, bytes, first + k);
-        end = push_word(out, end, kind, f, x);
-    }
-    end
-}
-
-#[tactic(auto, unfolding(words::specs::Laid::laid))]
-fn push_blanks(out: &mut [u8], at: usize, n: usize) -> usize
-    requires { at + n ≤ length out.old }
-    ensures { Wrote out.old at (replicate n 32) out.new result }
-{
-    let end = at + n;
-    out[at..end].fill(b' ');
-    end
 }
 
 // The name, and blanks up to where the numbers start.
-fn push_label(out: &mut [u8], at: usize, f: usize) -> usize
-    requires { at + 11 ≤ length out.old }
-    ensures { Wrote out.old at (label f) out.new result }
+#[tactic(auto, using(fields::proofs::Lengths::name_length), unfolding(crate::specs::Text::label))]
+fn push_label<const N: usize>(page: &mut Page<N>, f: usize)
+    requires { length page.old + 11 ≤ N }
+    ensures { Put 11 page.old (label f) page.new }
 {
-    let end = push_name(out, at, f);
-    push_blanks(out, end, 11 - (end - at))
+    let name = name_of(f);
+    page.push_bytes(name);
+    page.push_bytes(&[b' '; 11][name.len()..]);
 }
 
-// The field's line.
-fn push_line(out: &mut [u8], at: usize, kind: Kind, s: Station, bytes: &[u8], f: usize) -> usize
-    requires { (at + 12 + 87 * count_of kind f ≤ length out.old) × Sound s bytes.now }
-    ensures { Wrote out.old at (line_text kind (place_in s bytes.now) f) out.new result }
-{
-    let numbers_at = push_label(out, at, f);
-    let end = push_numbers(out, numbers_at, kind, s, bytes, f);
-    push(out, end, b'\n')
+// A station, its kind and the 237 bytes that it was read from.
+#[derive(Clone, Copy)]
+pub(crate) struct Source<'a> {
+    kind: Kind,
+    station: Station,
+    bytes: &'a [u8],
+    ghost sound: { Sound station bytes.now },
 }
 
-// The field's line, if the kind has it.
-#[tactic(auto, using(words::proofs::Writing::wrote_none), unfolding(crate::specs::Text::field_text))]
-fn push_field(out: &mut [u8], at: usize, kind: Kind, s: Station, bytes: &[u8], f: usize) -> usize
-    requires { (at + 12 + 87 * count_of kind f ≤ length out.old) × Sound s bytes.now }
-    ensures { Wrote out.old at (field_text kind (place_in s bytes.now) f) out.new result }
-{
-    if !has_field(kind, f) {
-        return at;
+impl Source<'_> {
+    pub(crate) fn new(station: Station, bytes: &[u8]) -> Source
+        requires { Sound station bytes.now }
+        ensures { (result.kind ≡ kind_of station) × (result.station ≡ station) × (result.bytes.now ≡ bytes.now) }
+    {
+        Source {
+            kind: kind_of(station),
+            station,
+            bytes,
+        }
     }
-    push_line(out, at, kind, s, bytes, f)
-}
 
-// The whole card.
-pub(crate) fn push_text(out: &mut [u8], kind: Kind, s: Station, bytes: &[u8]) -> usize
-    requires { (8192 ≤ length out.old) × Sound s bytes.now }
-    ensures text { Wrote out.old 0 (text_of kind (place_in s bytes.now)) out.new result }
-    // what a caller needs to lend the text on, as `&out[..r]`
-    ensures within { (result ≤ length out.new) × (result ≡ length (take result out.new)) }
-{
-    let mut end: usize = 0;
-    for i in 0..FIELDS {
-        end = push_field(out, end, kind, s, bytes, i + 1);
+    // The float in place p.
+    #[tactic(auto, unfolding(crate::specs::Text::place_in))]
+    fn place(self, p: usize) -> f32
+        requires { p < 59 }
+        ensures { result ≡ place_in self.entry.station self.entry.bytes.now p }
+    {
+        if p < 56 {
+            float_at(self.station, p)
+        } else {
+            big_endian::float_at(self.bytes, 225 + 4 * (p - 56))
+        }
     }
-    end
+
+    // The field's numbers.
+    fn push_numbers<const N: usize>(self, page: &mut Page<N>, f: usize)
+        requires { length page.old + 87 * count_of self.kind f ≤ N }
+        ensures { Put (87 * count_of self.entry.kind f) page.old (in_turn (number_text self.entry.kind (place_in self.entry.station self.entry.bytes.now) f) (count_of self.entry.kind f)) page.new }
+    {
+        let first = first_place(self.kind, f);
+        for k in 0..count_of(self.kind, f) {
+            push_word(page, self.kind, f, self.place(first + k));
+        }
+    }
+
+    // The field's line.
+    #[tactic(auto, unfolding(crate::specs::Text::line_text))]
+    fn push_line<const N: usize>(self, page: &mut Page<N>, f: usize)
+        requires { length page.old + (12 + 87 * count_of self.kind f) ≤ N }
+        ensures { Put (12 + 87 * count_of self.entry.kind f) page.old (line_text self.entry.kind (place_in self.entry.station self.entry.bytes.now) f) page.new }
+    {
+        push_label(page, f);
+        self.push_numbers(page, f);
+        page.push(b'\n');
+    }
+
+    // The field's line, if the kind has it.
+    #[tactic(auto, using(words::proofs::Writing::put_none), unfolding(crate::specs::Text::field_text))]
+    fn push_field<const N: usize>(self, page: &mut Page<N>, f: usize)
+        requires { length page.old + (12 + 87 * count_of self.kind f) ≤ N }
+        ensures { Put (12 + 87 * count_of self.entry.kind f) page.old (field_text self.entry.kind (place_in self.entry.station self.entry.bytes.now) f) page.new }
+    {
+        if has_field(self.kind, f) {
+            self.push_line(page, f);
+        }
+    }
+
+    // The whole card.
+    pub(crate) fn push_text<const N: usize>(self, page: &mut Page<N>)
+        requires { length page.old + 8192 ≤ N }
+        ensures { Put 8192 page.old (text_of self.entry.kind (place_in self.entry.station self.entry.bytes.now)) page.new }
+    {
+        for i in 0..FIELDS {
+            self.push_field(page, i + 1);
+        }
+    }
 }

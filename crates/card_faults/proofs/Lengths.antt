@@ -21,10 +21,10 @@ over-short : (f number : ℕ) → length (over f number) ≤ 33
 unfolding over quoted
 over-short f number = either 33 (is_band f || eqb f ELEMENTS) _ _ (lit≤ tt) (either 33 (eqb f DIPOLES) _ _ (lit≤ tt) (either 33 (is_azimuth f number) _ _ (lit≤ tt) (lit≤ tt)))
 
-pub broken-short : (f number : ℕ) (x : Float) → length (broken f number x) ≤ 33
+pub broken_short : (f number : ℕ) (x : Float) → length (broken f number x) ≤ 33
 unfolding broken quoted
-broken-short f number x = either 33 (eqb f TYPE) _ _ (lit≤ tt) (either 33 (lt x (lowest f)) _ _ (under-short f) (either 33 (is_over f number x) _ _ (over-short f number) (lit≤ tt)))
+broken_short f number x = either 33 (eqb f TYPE) _ _ (lit≤ tt) (either 33 (lt x (lowest f)) _ _ (under-short f) (either 33 (is_over f number x) _ _ (over-short f number) (lit≤ tt)))
 
-pub refused-short : (n : ℕ) → length (refused_text n) ≤ 19
+pub refused_short : (n : ℕ) → length (refused_text n) ≤ 19
 unfolding refused_text quoted
-refused-short n = either 19 (eqb n 3) _ _ (lit≤ tt) (either 19 (eqb n 5) _ _ (lit≤ tt) (either 19 (eqb n 6) _ _ (lit≤ tt) (lit≤ tt)))
+refused_short n = either 19 (eqb n 3) _ _ (lit≤ tt) (either 19 (eqb n 5) _ _ (lit≤ tt) (either 19 (eqb n 6) _ _ (lit≤ tt) (lit≤ tt)))

@@ -10,25 +10,25 @@ mod sentences;
 ghost use Rattle.std.specs.Prelude.{◌≡◌, ◌≤◌, length, take};
 ghost use Rattle.answers.specs.Outcome.{outcome};
 ghost use Rattle.words.specs.Writing.{Wrote};
-ghost use Rattle.card_words.specs.Pushed.{Pushed};
 ghost use Rattle.card_text.specs.Sentences.{sentence_of, sentence_in, line_in};
 
 use crate::sentences::{push_mistake, push_remarked};
 use answers::Refusal;
 use card::kind::kind_in;
 use card::read;
-use words::bytes::push;
+use words::page::{Page, put_page};
 
-// The sentence from the buffer's start on.
-#[tactic(auto, unfolding(crate::specs::Sentences::sentence_of, crate::specs::Sentences::spoken))]
-fn push_sentence(text: &[u8], out: &mut [u8]) -> usize
-    requires { 256 ≤ length out.old }
-    ensures { Pushed 182 out.old 0 (sentence_of text.now) out.new result }
+// The sentence, on a page of its own.
+#[tactic(auto, using(words::proofs::Writing::page_has), unfolding(crate::specs::Sentences::sentence_of, crate::specs::Sentences::spoken))]
+fn page_of(text: &[u8]) -> Page<256>
+    ensures { (result ≡ sentence_of text.now) × (length result ≤ 182) }
 {
+    let mut page: Page<256> = Page::new();
     match read(text) {
-        Ok(r) => push_remarked(out, text, r.station.mode, r.mhz),
-        Err(m) => push_mistake(out, text, kind_in(text), m),
+        Ok(r) => push_remarked(&mut page, text, r.station.mode, r.mhz),
+        Err(m) => push_mistake(&mut page, text, kind_in(text), m),
     }
+    page
 }
 
 // Writes the sentence of a card over the first of the lent bytes, and answers its length: 0 for a good
@@ -40,11 +40,12 @@ pub fn sentence(text: &[u8], out: &mut [u8]) -> Result<usize, Refusal>
     if out.len() < 256 {
         return Err(Refusal::Space);
     }
-    Ok(push_sentence(text, out))
+    Ok(put_page(&page_of(text), out))
 }
 
 // The sentence and a line feed, for a program: nothing for a good card without a remark, and nothing
 // into a buffer of under 256 bytes.
+#[tactic(auto, using(words::proofs::Writing::wrote_none), unfolding(crate::specs::Sentences::line_in))]
 pub fn sentence_line(text: &[u8], out: &mut [u8]) -> usize
     ensures line { Wrote out.old 0 (line_in (length out.old) text.now) out.new result }
     // what a caller needs to lend the line on, as `&out[..r]`
@@ -53,9 +54,10 @@ pub fn sentence_line(text: &[u8], out: &mut [u8]) -> usize
     if out.len() < 256 {
         return 0;
     }
-    let n = push_sentence(text, out);
-    if n == 0 {
+    let mut page = page_of(text);
+    if page.text().is_empty() {
         return 0;
     }
-    push(out, n, b'\n')
+    page.push(b'\n');
+    put_page(&page, out)
 }

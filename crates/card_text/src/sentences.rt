@@ -1,34 +1,32 @@
 // The sentence of a mistake, piece by piece.
 ghost use Rattle.std.specs.Prelude.{◌≡◌, ◌+◌, ◌≤◌, length};
+ghost use Rattle.words.specs.Writing.{Put};
 ghost use Rattle.card.specs.Card as Card;
-ghost use Rattle.card_words.specs.Pushed.{Pushed};
 ghost use Rattle.card_text.specs.Sentences.{is_second, gain_field, not_had, said_of, subject, mistake_text, is_remarked, remark_text};
 
 use card::line::line_of;
 use card::mistakes::{Fault, Mistake};
-use card_faults::faults::{
-    push_foreign, push_limit, push_missing, push_not_a_number, push_remark, push_second_gain,
-    push_too_few, push_too_large, push_too_many, push_twice,
-};
+use card_faults::faults::{push_foreign, push_limit, push_missing, push_second_gain, push_twice};
 use card_places::places::{numbers_in, word_at};
-use card_words::pieces::{push_field, push_number, push_shown};
+use card_words::pieces::{push_counts, push_number, push_said, push_shown};
 use decimal::read;
 use fields::Kind;
-use fields::names::{GAIN, GAIN_MHZ, GAIN_RATIO, MHZ};
+use fields::names::{GAIN, GAIN_MHZ, GAIN_RATIO, MHZ, push_name};
 use fields::table::{count_of, has_field, is_maximum_gain, mode_of};
 use floats::range::is_between;
-use words::bytes::push_bytes;
+use words::page::Page;
 
 // A field's name; where there is no such field, the first word of the line of this number.
-#[tactic(auto, using(card_words::proofs::Pushing::within), unfolding(crate::specs::Sentences::subject))]
-fn push_subject(out: &mut [u8], at: usize, text: &[u8], line: usize, f: usize) -> usize
-    requires { at + 42 ≤ length out.old }
-    ensures { Pushed 42 out.old at (subject (Card.line_at (Card.card_of text.now) line) f) out.new result }
+#[tactic(auto, using(words::proofs::Writing::at_most), unfolding(crate::specs::Sentences::subject))]
+fn push_subject<const N: usize>(page: &mut Page<N>, text: &[u8], line: usize, f: usize)
+    requires { length page.old + 42 ≤ N }
+    ensures { Put 42 page.old (subject (Card.line_at (Card.card_of text.now) line) f) page.new }
 {
     if f == 0 {
-        return push_shown(out, at, word_at(text, line, 0));
+        push_shown(page, word_at(text, line, 0));
+    } else {
+        push_name(page, f);
     }
-    push_field(out, at, f)
 }
 
 // Whether the type has a maximum gain in another mode.
@@ -57,58 +55,59 @@ pub(crate) fn gain_field(mode: u8) -> usize
 
 // A field that the kind doesn't have; `earlier` is the line of the card's own maximum gain.
 #[tactic(auto, unfolding(crate::specs::Sentences::not_had))]
-fn push_not_had(out: &mut [u8], at: usize, kind: Kind, earlier: usize, f: usize) -> usize
-    requires { at + 128 ≤ length out.old }
-    ensures { Pushed 128 out.old at (not_had kind earlier f) out.new result }
+fn push_not_had<const N: usize>(page: &mut Page<N>, kind: Kind, earlier: usize, f: usize)
+    requires { length page.old + 128 ≤ N }
+    ensures { Put 128 page.old (not_had kind earlier f) page.new }
 {
     if is_second(kind, f) {
-        return push_second_gain(out, at, earlier, gain_field(kind.mode));
+        push_second_gain(page, earlier, gain_field(kind.mode));
+    } else {
+        push_foreign(page, kind.iant);
     }
-    push_foreign(out, at, kind.iant)
 }
 
 // What is said of a field, after its name.
-#[tactic(auto, using(card_words::proofs::Pushing::within, card_words::proofs::Pushing::all), unfolding(crate::specs::Sentences::said_of, card::specs::Places::read_value, quoted::specs::Quoted::quoted))]
-fn push_said_of(
-    out: &mut [u8],
-    at: usize,
+#[tactic(auto, using(words::proofs::Writing::at_most), unfolding(crate::specs::Sentences::said_of, card::specs::Places::read_value, card_faults::specs::Faults::too_few, card_faults::specs::Faults::too_many, card_faults::specs::Faults::not_a_number, card_faults::specs::Faults::too_large, quoted::specs::Quoted::quoted))]
+fn push_said_of<const N: usize>(
+    page: &mut Page<N>,
     text: &[u8],
     kind: Kind,
     earlier: usize,
     m: Mistake,
-) -> usize
-    requires { at + 128 ≤ length out.old }
-    ensures { Pushed 128 out.old at (said_of kind earlier m.what (Card.line_at (Card.card_of text.now) m.line) m.field m.number) out.new result }
+)
+    requires { length page.old + 128 ≤ N }
+    ensures { Put 128 page.old (said_of kind earlier m.what (Card.line_at (Card.card_of text.now) m.line) m.field m.number) page.new }
 {
     let f = m.field;
     let count = numbers_in(text, m.line);
+    let wanted = count_of(kind, f);
     let word = word_at(text, m.line, m.number);
     match m.what {
-        Fault::Unknown => push_bytes(out, at, b": there is no such field"),
-        Fault::Twice(line) => push_twice(out, at, line),
-        Fault::Foreign => push_not_had(out, at, kind, earlier, f),
-        Fault::TooFew => push_too_few(out, at, count, count_of(kind, f)),
-        Fault::TooMany => push_too_many(out, at, count, count_of(kind, f)),
-        Fault::NotANumber => push_not_a_number(out, at, word),
-        Fault::TooLarge => push_too_large(out, at, word),
+        Fault::Unknown => page.push_bytes(b": there is no such field"),
+        Fault::Twice(line) => push_twice(page, line),
+        Fault::Foreign => push_not_had(page, kind, earlier, f),
+        Fault::TooFew => push_counts(page, b": too few numbers, ", count, b" of ", wanted),
+        Fault::TooMany => push_counts(page, b": too many numbers, ", count, b" for ", wanted),
+        Fault::NotANumber => push_said(page, word, b" is not a number"),
+        Fault::TooLarge => push_said(page, word, b" is too large"),
         Fault::Limit(refusal) => {
             let x = read(word).unwrap_or(0.0);
-            push_limit(out, at, word, f, m.number, x, refusal)
+            push_limit(page, word, f, m.number, x, refusal);
         }
-        Fault::Missing => push_missing(out, at, f),
+        Fault::Missing => push_missing(page, f),
     }
 }
 
-// The sentence of a mistake, from the buffer's start on.
-pub(crate) fn push_mistake(out: &mut [u8], text: &[u8], kind: Kind, m: Mistake) -> usize
-    requires { 256 ≤ length out.old }
-    ensures { Pushed 182 out.old 0 (mistake_text kind (Card.card_of text.now) m) out.new result }
+// The sentence of a mistake.
+pub(crate) fn push_mistake<const N: usize>(page: &mut Page<N>, text: &[u8], kind: Kind, m: Mistake)
+    requires { length page.old + 182 ≤ N }
+    ensures { Put 182 page.old (mistake_text kind (Card.card_of text.now) m) page.new }
 {
     let earlier = line_of(text, gain_field(kind.mode));
-    let colon_at = push_number(out, 0, m.line);
-    let field_at = push_bytes(out, colon_at, b": ");
-    let said_at = push_subject(out, field_at, text, m.line, m.field);
-    push_said_of(out, said_at, text, kind, earlier, m)
+    push_number(page, m.line);
+    page.push_bytes(b": ");
+    push_subject(page, text, m.line, m.field);
+    push_said_of(page, text, kind, earlier, m);
 }
 
 // Whether document 01 takes the operating MHz as another.
@@ -119,18 +118,18 @@ fn is_remarked(mode: u8, mhz: f32) -> bool
     (mode == 1) & !is_between(mhz, 2.0, 30.0)
 }
 
-// The sentence of a remark, if there is one, from the buffer's start on.
-pub(crate) fn push_remarked(out: &mut [u8], text: &[u8], mode: u8, mhz: f32) -> usize
-    requires { 256 ≤ length out.old }
-    ensures { Pushed 182 out.old 0 (remark_text (Card.card_of text.now) mode mhz) out.new result }
+// The sentence of a remark, if there is one.
+#[tactic(auto, using(words::proofs::Writing::put_none), unfolding(crate::specs::Sentences::remark_text))]
+pub(crate) fn push_remarked<const N: usize>(page: &mut Page<N>, text: &[u8], mode: u8, mhz: f32)
+    requires { length page.old + 182 ≤ N }
+    ensures { Put 182 page.old (remark_text (Card.card_of text.now) mode mhz) page.new }
 {
     if is_remarked(mode, mhz) {
         let line = line_of(text, MHZ);
         let word = word_at(text, line, 1);
-        let colon_at = push_number(out, 0, line);
-        let field_at = push_bytes(out, colon_at, b": ");
-        let remark_at = push_field(out, field_at, MHZ);
-        return push_remark(out, remark_at, word);
+        push_number(page, line);
+        page.push_bytes(b": ");
+        push_name(page, MHZ);
+        push_said(page, word, b" is outside 2 to 30 and counts as 10 MHz");
     }
-    0
 }

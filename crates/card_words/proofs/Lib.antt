@@ -1,2 +1,1 @@
--- What several proofs cite, in crates above too.
-pub mod Pushing
+-- No laws that other crates cite.

@@ -1,3 +1,2 @@
 -- The definitions that contracts cite: one file for each subject.
-pub mod Pushed
 pub mod Pieces

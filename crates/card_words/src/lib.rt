@@ -1,5 +1,5 @@
 #![tactic(auto)]
 
-// The pieces that a card's sentences are made of: what was typed, numbers, fields' names
-// (specs/Pieces.antt). Each is written in at most so many bytes (`Pushed`, specs/Pushed.antt).
+// The pieces that a card's sentences are made of: what was typed, and numbers with what is said of
+// them (specs/Pieces.antt), each in at most so many bytes.
 pub mod pieces;

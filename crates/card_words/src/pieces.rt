@@ -1,24 +1,24 @@
 // The pieces of sentences.
 ghost use Rattle.std.specs.Prelude.{◌≡◌, [], ◌∷◌, ◌++◌, ◌+◌, ◌≤◌, length};
-ghost use Rattle.fields.specs.Names.{name_of};
-ghost use Rattle.card_words.specs.Pushed.{Pushed};
+ghost use Rattle.words.specs.Writing.{Put};
 ghost use Rattle.card_words.specs.Pieces.{shown, capped, told};
 
-use fields::names::push_name;
 use numerals::push_numeral;
-use words::bytes::push_bytes;
+use words::page::Page;
 
 // A word as typed, its first 40 bytes where it is longer.
-// Inner step: a sentence's buffer has room for it.
-pub fn push_shown(out: &mut [u8], at: usize, word: &[u8]) -> usize
-    requires { at + 42 ≤ length out.old }
-    ensures { Pushed 42 out.old at (shown word.now) out.new result }
+// Inner step: a sentence's page has room for it.
+#[tactic(auto, using(words::proofs::Writing::at_most), unfolding(crate::specs::Pieces::shown))]
+pub fn push_shown<const N: usize>(page: &mut Page<N>, word: &[u8])
+    requires { length page.old + 42 ≤ N }
+    ensures { Put 42 page.old (shown word.now) page.new }
 {
     if word.len() <= 40 {
-        return push_bytes(out, at, word);
+        page.push_bytes(word);
+    } else {
+        page.push_bytes(&word[..40]);
+        page.push_bytes(b"..");
     }
-    let next = push_bytes(out, at, &word[..40]);
-    push_bytes(out, next, b"..")
 }
 
 // A number as 32 bits have it.
@@ -29,42 +29,49 @@ pub fn capped(n: usize) -> u32
 }
 
 // A number in its digits.
-// Inner step: a sentence's buffer has room for it.
-pub fn push_number(out: &mut [u8], at: usize, n: usize) -> usize
-    requires { at + 10 ≤ length out.old }
-    ensures { Pushed 10 out.old at (told n) out.new result }
+// Inner step: a sentence's page has room for it.
+#[tactic(auto, unfolding(crate::specs::Pieces::told))]
+pub fn push_number<const N: usize>(page: &mut Page<N>, n: usize)
+    requires { length page.old + 10 ≤ N }
+    ensures { Put 10 page.old (told n) page.new }
 {
-    push_numeral(out, at, capped(n))
-}
-
-// A field's name.
-// Inner step: a sentence's buffer has room for it.
-#[tactic(auto, using(crate::proofs::Pushing::up_to, fields::proofs::Lengths::name_length))]
-pub fn push_field(out: &mut [u8], at: usize, f: usize) -> usize
-    requires { at + 10 ≤ length out.old }
-    ensures { Pushed 10 out.old at (name_of f) out.new result }
-{
-    push_name(out, at, f)
+    push_numeral(page, capped(n));
 }
 
 // A colon, a word, and what is said of it.
-// Inner step: a sentence's buffer has room for it, and what is said has at most 46 bytes.
-pub fn push_said(out: &mut [u8], at: usize, word: &[u8], said: &[u8]) -> usize
-    requires { (at + 90 ≤ length out.old) × (length said.now ≤ 46) }
-    ensures { Pushed 90 out.old at ((58 ∷ 32 ∷ []) ++ shown word.now ++ said.now) out.new result }
+// Inner step: a sentence's page has room for it, and what is said has at most 46 bytes.
+pub fn push_said<const N: usize>(page: &mut Page<N>, word: &[u8], said: &[u8])
+    requires { (length page.old + 90 ≤ N) × (length said.now ≤ 46) }
+    ensures { Put 90 page.old ((58 ∷ 32 ∷ []) ++ shown word.now ++ said.now) page.new }
 {
-    let word_at = push_bytes(out, at, b": ");
-    let said_at = push_shown(out, word_at, word);
-    push_bytes(out, said_at, said)
+    page.push_bytes(b": ");
+    push_shown(page, word);
+    page.push_bytes(said);
 }
 
 // A number with what is said before and after it.
-// Inner step: a sentence's buffer has room for it, and what is said has at most 32 and 22 bytes.
-pub fn push_counted(out: &mut [u8], at: usize, before: &[u8], n: usize, after: &[u8]) -> usize
-    requires { (at + 64 ≤ length out.old) × (length before.now ≤ 32) × (length after.now ≤ 22) }
-    ensures { Pushed 64 out.old at (before.now ++ told n ++ after.now) out.new result }
+// Inner step: a sentence's page has room for it, and what is said has at most 32 and 22 bytes.
+pub fn push_counted<const N: usize>(page: &mut Page<N>, before: &[u8], n: usize, after: &[u8])
+    requires { (length page.old + 64 ≤ N) × (length before.now ≤ 32) × (length after.now ≤ 22) }
+    ensures { Put 64 page.old (before.now ++ told n ++ after.now) page.new }
 {
-    let number_at = push_bytes(out, at, before);
-    let after_at = push_number(out, number_at, n);
-    push_bytes(out, after_at, after)
+    page.push_bytes(before);
+    push_number(page, n);
+    page.push_bytes(after);
+}
+
+// Two numbers, each with what is said before it.
+// Inner step: a sentence's page has room for it, and what is said has at most 32 and 22 bytes.
+pub fn push_counts<const N: usize>(
+    page: &mut Page<N>,
+    before: &[u8],
+    n: usize,
+    between: &[u8],
+    m: usize,
+)
+    requires { (length page.old + 74 ≤ N) × (length before.now ≤ 32) × (length between.now ≤ 22) }
+    ensures { Put 74 page.old (before.now ++ told n ++ between.now ++ told m) page.new }
+{
+    push_counted(page, before, n, between);
+    push_number(page, m);
 }

@@ -20,7 +20,7 @@ use Rattle.antenna_laws.proofs.RowGains.{accepted_row_gains}
 use Rattle.request.specs.Request.{request_of, table_after}
 use Rattle.request.specs.declared.Request.{Request}
 use Rattle.text.specs.Lines.{refusal_line, lines_to}
-use Rattle.text.proofs.Laws.{printed-refused, printed-accepted}
+use Rattle.text.proofs.Laws.{printed_refused, printed_accepted}
 use Rattle.plate_text.specs.Plate.{gain_at, row_text, plate_text}
 use Rattle.claims.specs.Demand1.{plate_row, Demand1}
 use Rattle.claims.proofs.Refusals.{refusals}
@@ -58,22 +58,22 @@ module _ (p lent : List Float) (a : Antenna) (readings : ℕ) (h : set_up_of p (
 
 refused-before : (input : List ℕ) (n : ℕ) → request_of input table_size ≡ refused n → plate_text input ≡ refusal_line n
 unfolding plate_text
-refused-before input n h = printed-refused _ _ n h
+refused-before input n h = printed_refused _ _ n h
 
 module _ (input : List ℕ) (q : Request) (ready : request_of input table_size ≡ accepted q) where
   row_text_lem : plate_text input ≡ row_text q (table_after input blank_table)
   unfolding plate_text
-  row_text_lem = printed-accepted _ _ q ready
+  row_text_lem = printed_accepted _ _ q ready
 
   refused-row : (n : ℕ) → plate_row input q ≡ refused n → plate_text input ≡ refusal_line n
   unfolding row_text
-  refused-row n h = row_text_lem ∙ printed-refused _ _ n h
+  refused-row n h = row_text_lem ∙ printed_refused _ _ n h
 
   plate : (x : Float) → plate_row input q ≡ accepted x
       → let answer = gain_at q (table_after input blank_table) in
       (plate_text input ≡ lines_to answer 360) × ((v : ℕ) → v < 360 → (k : Kind) × (g : Float) × (answer v ≡ accepted (k, g)))
   unfolding row_text
-  plate x h = (row_text_lem ∙ printed-accepted _ _ x h, λ v l. (_, _, accepted_row_gains q.antenna (table_after input blank_table) q.elevation q.giso h v l))
+  plate x h = (row_text_lem ∙ printed_accepted _ _ x h, λ v l. (_, _, accepted_row_gains q.antenna (table_after input blank_table) q.elevation q.giso h v l))
 
 pub demand_1 : Demand1
 demand_1 =

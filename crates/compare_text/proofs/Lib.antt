@@ -1,2 +1,1 @@
--- What the proofs of several functions cite: that what was written lies in the buffer (`Text`).
-mod Text
+-- No laws yet that other crates cite.

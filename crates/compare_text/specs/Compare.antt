@@ -2,7 +2,6 @@
 use Rattle.std.specs.Prelude.{ℕ, ◌+◌, ◌*◌, cond, not, List, [], ◌++◌, ltb, eqb, length, take, drop, get_or}
 use Rattle.answers.specs.Outcome.{Outcome, refused, accepted}
 use Rattle.quoted.specs.Quoted.{quoted}
-pub use Rattle.words.specs.Writing.{Wrote}
 use Rattle.shown.specs.Plate.{Entry}
 use Rattle.shown.specs.Rows.{numbers_of, kinds_of}
 use Rattle.shown.specs.Shown.{shown_of}
@@ -29,8 +28,10 @@ unfoldable pub compare_in : ℕ → List ℕ → List ℕ → ℕ → List ℕ
 compare_in room first second base = cond (ltb room 2048) [] (compare_text first second base)
 
 -- ---- the program: its input is the base in two bytes, the greater first, then the 237 of each mast; any other length is refused as `plate` refuses it
+unfoldable pub output_text : List ℕ → List ℕ
+output_text input =
+    cond (not (eqb (length input) 476)) (quoted "refused 1\n")
+    (compare_text (take 237 (drop 2 input)) (drop 239 input) (get_or input 0 0 * 256 + get_or input 1 0))
+
 unfoldable pub output_in : ℕ → List ℕ → List ℕ
-output_in room input =
-    cond (ltb room 2048) []
-    (cond (not (eqb (length input) 476)) (quoted "refused 1\n")
-    (compare_text (take 237 (drop 2 input)) (drop 239 input) (get_or input 0 0 * 256 + get_or input 1 0)))
+output_in room input = cond (ltb room 2048) [] (output_text input)

@@ -6,37 +6,26 @@
 pub mod lines;
 pub mod masts;
 
-ghost use Rattle.std.specs.Prelude.{◌≤◌, ◌<◌, length};
-ghost use Rattle.labels.specs.Writing.{Put};
+ghost use Rattle.std.specs.Prelude.{◌+◌, ◌≤◌, ◌<◌, length};
+ghost use Rattle.words.specs.Writing.{Put};
 ghost use Rattle.comparison.specs.Lines.{lines_of};
 
-use answers::Kind;
-use figures::{leads, leads_at};
+use dial::Row;
+use figures::leads;
 use lines::{push_base, push_masts, push_round};
-use masts::{mast_of, reading_at};
+use masts::{at_base, mast_of};
+use words::page::Page;
 
 // Inner step: the lines of two rows.
-pub fn push_lines(
-    out: &mut [u8],
-    base: u32,
-    a: &[u32; 360],
-    a_kinds: &[Kind; 360],
-    b: &[u32; 360],
-    b_kinds: &[Kind; 360],
-) -> usize
-    requires { (2048 ≤ length out.old) × (base < 360) }
-    ensures { Put 540 out.old 0 (lines_of base a.now a_kinds.now b.now b_kinds.now) out.new result }
+#[tactic(auto, using(figures::proofs::Laws::leads_sum), unfolding(crate::specs::Lines::lines_of))]
+pub fn push_lines<const N: usize>(page: &mut Page<N>, base: u32, a: &Row, b: &Row)
+    requires { (length page.old + 540 ≤ N) × (base < 360) }
+    ensures { Put 540 page.old (lines_of base a.now.numbers a.now.kinds b.now.numbers b.now.kinds) page.new }
 {
     let v = base as usize;
-    let first = leads_at(a, a_kinds, b, v);
-    let second = leads_at(b, b_kinds, a, v);
-    let here = reading_at(a, a_kinds, v);
-    let there = reading_at(b, b_kinds, v);
-    let masts_at = push_base(out, 0, base, first, second, here, there);
-    let one = mast_of(b'A', a, a_kinds);
-    let two = mast_of(b'B', b, b_kinds);
-    let round_at = push_masts(out, masts_at, one, two);
-    let first_leads = leads(a, a_kinds, b);
-    let second_leads = leads(b, b_kinds, a);
-    push_round(out, round_at, first_leads as u32, second_leads as u32)
+    push_base(page, base, at_base(a, b, v), at_base(b, a, v));
+    push_masts(page, mast_of(b'A', a), mast_of(b'B', b));
+    let first_leads = leads(a, b);
+    let second_leads = leads(b, a);
+    push_round(page, first_leads as u32, second_leads as u32);
 }

@@ -1,10 +1,11 @@
 // What is read off a mast's plate.
 ghost use Rattle.std.specs.Prelude.{◌≡◌, ◌<◌};
+ghost use Rattle.figures.specs.Figures.{leads_at};
 ghost use Rattle.comparison.specs.Masts.{reading_of, mast_of};
 
 use answers::Kind;
-use dial::peak_azimuth;
-use figures::{beam, behind};
+use dial::{Row, peak_azimuth};
+use figures::{beam, behind, leads_at};
 
 // A gain, in raised hundredths.
 #[derive(Clone, Copy)]
@@ -30,25 +31,43 @@ pub struct Mast {
 }
 
 #[tactic(auto, unfolding(crate::specs::Masts::reading_of))]
-pub(crate) fn reading_at(numbers: &[u32; 360], kinds: &[Kind; 360], v: usize) -> Reading
+fn reading_at(row: &Row, v: usize) -> Reading
     requires { v < 360 }
-    ensures { result ≡ reading_of numbers.now kinds.now v }
+    ensures { result ≡ reading_of row.now.numbers row.now.kinds v }
 {
     Reading {
-        kind: kinds[v],
-        number: numbers[v],
+        kind: row.kinds[v],
+        number: row.numbers[v],
+    }
+}
+
+// A mast at the base, beside the other.
+#[derive(Clone, Copy)]
+pub(crate) struct AtBase {
+    pub gain: Reading,
+    pub leads: bool,
+}
+
+pub(crate) fn at_base(row: &Row, other: &Row, v: usize) -> AtBase
+    requires { v < 360 }
+    ensures gain { result.gain ≡ reading_of row.now.numbers row.now.kinds v }
+    ensures leads { result.leads ≡ leads_at row.now.numbers row.now.kinds other.now.numbers v }
+{
+    AtBase {
+        gain: reading_at(row, v),
+        leads: leads_at(row, other, v),
     }
 }
 
 #[tactic(auto, unfolding(crate::specs::Masts::mast_of))]
-pub(crate) fn mast_of(name: u8, numbers: &[u32; 360], kinds: &[Kind; 360]) -> Mast
-    ensures { result ≡ mast_of name numbers.now kinds.now }
+pub(crate) fn mast_of(name: u8, row: &Row) -> Mast
+    ensures { result ≡ mast_of name row.now.numbers row.now.kinds }
 {
-    let azimuth = peak_azimuth(numbers);
-    let front = reading_at(numbers, kinds, 0);
-    let peak = reading_at(numbers, kinds, azimuth);
-    let behind = reading_at(numbers, kinds, behind(numbers));
-    let beam = beam(numbers) as u32;
+    let azimuth = peak_azimuth(&row.numbers);
+    let front = reading_at(row, 0);
+    let peak = reading_at(row, azimuth);
+    let behind = reading_at(row, behind(&row.numbers));
+    let beam = beam(&row.numbers) as u32;
     Mast {
         name,
         front,

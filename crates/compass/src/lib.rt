@@ -66,6 +66,7 @@ fn rises(v: u32) -> bool
     v % 360 < 180
 }
 
+#[tactic(auto, unfolding(crate::specs::Compass::x_of))]
 fn across(v: u32, r: u32) -> u32
     requires { r ≤ 4000 }
     ensures { result ≡ x_of v r }
@@ -77,6 +78,7 @@ fn across(v: u32, r: u32) -> u32
     4000 - k
 }
 
+#[tactic(auto, unfolding(crate::specs::Compass::y_of))]
 fn down(v: u32, r: u32) -> u32
     requires { (v ≤ 360) × (r ≤ 4000) }
     ensures { result ≡ y_of v r }
@@ -89,6 +91,7 @@ fn down(v: u32, r: u32) -> u32
 }
 
 // Inner step: the point at azimuth v, 360 being 0 again, at the distance r.
+#[tactic(auto, unfolding(crate::specs::Compass::point_of))]
 pub fn point_at(v: u32, r: u32) -> Point
     requires { (v ≤ 360) × (r ≤ 4000) }
     ensures { result ≡ point_of v r }

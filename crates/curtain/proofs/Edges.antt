@@ -1,6 +1,7 @@
 -- The starred edges of the curtain: slots 4 and 7 at 10, all others 0, factor 1, elevation 0.
 use mathlib.Core.Path.{◌≡◌}
 use mathlib.Core.List.{List, [], ◌∷◌}
+use Rattle.std.specs.Float.{float_with_sign}
 use lib.Ieee.{Float, of_bits, neg, add, sub, mul, div, lt, le, eq, ne, to_signed}
 use Rattle.sine.proofs.Edges.{cos_zero, sin_small, cos_small}
 use Rattle.sine.proofs.Laws.{sine-zero}
@@ -26,6 +27,6 @@ bare =
 pub bare-curtain :
     (curtain_gain bare +0 +0 one ≡ accepted (neg n1000))
     × (curtain_gain bare n180 +0 one ≡ accepted (neg n1020))
-unfolding curtain_gain refusal_of station_refusal_of station_finite all_finite finite_to band_ok in_band from_to aim_ok between graded level_of level_at factor_of decibels curtain_of nostak_of nbs_of lengths_of to_metres beta_of iaz folded f2 ef_of bay_power bay_cosines bay_sines stack_sines stack_power nint_of of_bits neg add sub mul div lt le eq ne to_signed
+unfolding curtain_gain refusal_of station_refusal_of station_finite all_finite finite_to band_ok in_band from_to aim_ok between graded level_of level_at factor_of decibels curtain_of nostak_of nbs_of lengths_of to_metres beta_of iaz folded f2 ef_of bay_power bay_cosines bay_sines stack_sines stack_power nint_of float_with_sign of_bits neg add sub mul div lt le eq ne to_signed
 bare-curtain =
     (rw (sine-zero, cos_zero, sine-zero, cos_zero), rw (sine-zero, cos_zero, sin_small, cos_small, sine-zero, cos_zero))

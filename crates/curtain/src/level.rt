@@ -11,7 +11,7 @@ use curtain_parameters::pattrn0::curtain_of;
 use curtain_pattern::azimuth::{behind, fold};
 use curtain_pattern::constants::{D2R, PI};
 use curtain_pattern::integral::{Read, dbltrap};
-use numeric::float::{abs, is_finite};
+use numeric::float::is_finite;
 
 // The normalising factor: -99999, which C callers and records have too, asks for the integral.
 #[tactic(auto, unfolding(crate::specs::Level::factor_of, crate::specs::Level::factor_readings))]
@@ -38,7 +38,7 @@ fn decibels(xgain: f32, factor: f32) -> f32
     ensures { result ≡ Level.decibels xgain factor }
 {
     if xgain != 0.0 {
-        return 10.0 * logarithm::log10(abs(xgain * factor));
+        return 10.0 * logarithm::log10((xgain * factor).abs());
     }
     -1000.0
 }

@@ -4,6 +4,7 @@ use mathlib.Core.Bool.{Bool, true, false, cond}
 use Prim.Native.Nat.{ℕ, zero, suc}
 use lib.ListN.{get_or}
 use lib.Ieee.{Float, nan, inf, fin, binary32, neg, lt, of_bits}
+use Rattle.std.specs.Float.{float_with_sign}
 use Rattle.numeric.specs.Float.{mag, copy_sign}
 use Rattle.sine.specs.Sine.{sine, cosine}
 use Rattle.sine.proofs.Laws.{sine-odd, sine-zero, cosine_even}
@@ -83,7 +84,7 @@ folded-number x e =
     rw iaz-neg (either_opposite (iaz x) back (with_neg x))
 
 folded-nan : folded nan ≡ nan
-unfolding folded iaz lt of_bits
+unfolding folded iaz lt of_bits float_with_sign
 folded-nan = refl
 
 pub folded-neg : (x : Float) → Opposite (folded x) (folded (neg x))

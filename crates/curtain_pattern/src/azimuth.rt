@@ -9,7 +9,7 @@ use crate::constants::{PI, PIO2};
 pub fn behind(azim: f32) -> bool
     ensures { result ≡ Azimuth.iaz azim }
 {
-    let size = numeric::float::abs(azim);
+    let size = azim.abs();
     size > PIO2 && size < 3.0 * PIO2
 }
 

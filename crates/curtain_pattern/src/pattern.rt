@@ -36,6 +36,7 @@ pub fn dipole(eil: f32, ceil: f32, cpsi: f32) -> f32
 }
 
 // The cosine and the sine at a bay's phase. The first bay's is +0, which needs no series.
+#[tactic(auto, using(crate::proofs::pattern::ZeroPhase::cosine_is_one), unfolding(sine::specs::Sine::cosine))]
 pub fn cos_at(phase: f32) -> f32
     ensures { result ≡ cosine phase }
 {
@@ -45,6 +46,7 @@ pub fn cos_at(phase: f32) -> f32
     sine::cos(phase)
 }
 
+#[tactic(auto, using(crate::proofs::pattern::ZeroPhase::sine_is_zero), unfolding(sine::specs::Sine::sine))]
 pub fn sin_at(phase: f32) -> f32
     ensures { result ≡ sine phase }
 {

@@ -4,14 +4,14 @@
 // those that are folded over where that is shown apart, one for the floors. Each azimuth is drawn by one
 // stroke at most (`one_stroke`, proofs/Laws.antt); whether any is a floor says `has_floor`.
 ghost use Rattle.std.specs.Prelude.{◌≡◌, ◌+◌, ◌≤◌, ◌<◌, length};
-ghost use Rattle.labels.specs.Writing.{Put};
+ghost use Rattle.words.specs.Writing.{Put};
 ghost use Rattle.curve.specs.Curve.{beyond, drawn, spot_of, coordinates, piece, step, pieces_to, stroke_text, curve_text, has_floor};
 
 use answers::Kind;
 use compass::{Point, point_at};
-use dial::radius;
+use dial::{Row, radius};
 use labels::push_whole;
-use words::bytes::push_bytes;
+use words::page::Page;
 
 // What a path goes through.
 #[derive(Clone, Copy, Debug, PartialEq, Eq)]
@@ -42,6 +42,7 @@ fn is_drawn(kinds: &[Kind; 360], fold: bool, stroke: Stroke, v: usize) -> bool
     }
 }
 
+#[tactic(auto, unfolding(crate::specs::Curve::spot_of))]
 fn spot(numbers: &[u32; 360], peak: u32, v: usize) -> Point
     requires { (v ≤ 360) × (peak ≤ 200000) }
     ensures { result ≡ spot_of numbers.now peak v }
@@ -50,125 +51,93 @@ fn spot(numbers: &[u32; 360], peak: u32, v: usize) -> Point
     point_at(v as u32, r)
 }
 
-fn push_coordinates(out: &mut [u8], at: usize, letter: &[u8], p: Point) -> usize
-    requires { (at + 24 ≤ length out.old) × (length letter.now ≤ 3) }
-    ensures { Put 24 out.old at (coordinates letter.now p) out.new result }
+#[tactic(auto, unfolding(crate::specs::Curve::coordinates, quoted::specs::Quoted::quoted))]
+fn push_coordinates<const N: usize>(page: &mut Page<N>, letter: &[u8], p: Point)
+    requires { (length page.old + 24 ≤ N) × (length letter.now ≤ 3) }
+    ensures { Put 24 page.old (coordinates letter.now p) page.new }
 {
-    let space_at = push_whole(out, at, letter, p.x);
-    push_whole(out, space_at, b" ", p.y)
+    push_whole(page, letter, p.x);
+    push_whole(page, b" ", p.y);
 }
 
-fn push_piece(out: &mut [u8], at: usize, fresh: bool, p: Point) -> usize
-    requires { at + 48 ≤ length out.old }
-    ensures { Put 48 out.old at (piece fresh p) out.new result }
+#[tactic(auto, using(words::proofs::Writing::joined, words::proofs::Writing::at_most), unfolding(crate::specs::Curve::piece, quoted::specs::Quoted::quoted))]
+fn push_piece<const N: usize>(page: &mut Page<N>, fresh: bool, p: Point)
+    requires { length page.old + 48 ≤ N }
+    ensures { Put 48 page.old (piece fresh p) page.new }
 {
     if fresh {
-        let line_at = push_coordinates(out, at, b" M ", p);
-        return push_coordinates(out, line_at, b" L ", p);
+        push_coordinates(page, b" M ", p);
     }
-    push_coordinates(out, at, b" L ", p)
+    push_coordinates(page, b" L ", p);
 }
 
-fn push_step(out: &mut [u8], at: usize, here: bool, earlier: bool, p: Point) -> usize
-    requires { at + 48 ≤ length out.old }
-    ensures { Put 48 out.old at (step here earlier p) out.new result }
+#[tactic(auto, using(words::proofs::Writing::put_none), unfolding(crate::specs::Curve::step))]
+fn push_step<const N: usize>(page: &mut Page<N>, here: bool, earlier: bool, p: Point)
+    requires { length page.old + 48 ≤ N }
+    ensures { Put 48 page.old (step here earlier p) page.new }
 {
     if here {
-        return push_piece(out, at, !earlier, p);
+        push_piece(page, !earlier, p);
     }
-    at
 }
 
 // The pieces of a stroke, azimuth by azimuth.
-fn push_pieces(
-    out: &mut [u8],
-    at: usize,
-    numbers: &[u32; 360],
-    kinds: &[Kind; 360],
-    fold: bool,
-    peak: u32,
-    stroke: Stroke,
-) -> usize
-    requires { (at + 17328 ≤ length out.old) × (peak ≤ 200000) }
-    ensures { Put 17328 out.old at (pieces_to (drawn kinds.now fold stroke) (spot_of numbers.now peak) 361) out.new result }
+fn push_pieces<const N: usize>(page: &mut Page<N>, row: &Row, fold: bool, peak: u32, stroke: Stroke)
+    requires { (length page.old + 17328 ≤ N) × (peak ≤ 200000) }
+    ensures { Put 17328 page.old (pieces_to (drawn row.now.kinds fold stroke) (spot_of row.now.numbers peak) 361) page.new }
 {
-    let mut end = at;
     let mut earlier = false;
     for v in 0..361 {
-        let here = is_drawn(kinds, fold, stroke, v);
-        end = push_step(out, end, here, earlier, spot(numbers, peak, v));
+        let here = is_drawn(&row.kinds, fold, stroke, v);
+        push_step(page, here, earlier, spot(&row.numbers, peak, v));
         earlier = here;
     }
-    end
 }
 
 // Inner step: a stroke of a row, after the words that open it.
-pub fn push_stroke(
-    out: &mut [u8],
-    at: usize,
+#[tactic(auto, unfolding(crate::specs::Curve::stroke_text, quoted::specs::Quoted::quoted))]
+pub fn push_stroke<const N: usize>(
+    page: &mut Page<N>,
     opening: &[u8],
-    numbers: &[u32; 360],
-    kinds: &[Kind; 360],
+    row: &Row,
     fold: bool,
     peak: u32,
     stroke: Stroke,
-) -> usize
-    requires { (at + 17430 ≤ length out.old) × (length opening.now ≤ 90) × (peak ≤ 200000) }
-    ensures { Put 17430 out.old at (stroke_text opening.now numbers.now kinds.now fold peak stroke) out.new result }
+)
+    requires { (length page.old + 17430 ≤ N) × (length opening.now ≤ 90) × (peak ≤ 200000) }
+    ensures { Put 17430 page.old (stroke_text opening.now row.now.numbers row.now.kinds fold peak stroke) page.new }
 {
-    let pieces_at = push_bytes(out, at, opening);
-    let end = push_pieces(out, pieces_at, numbers, kinds, fold, peak, stroke);
-    push_bytes(out, end, b"'/>\n")
+    page.push_bytes(opening);
+    push_pieces(page, row, fold, peak, stroke);
+    page.push_bytes(b"'/>\n");
 }
 
 // Inner step: the curve of a row whose peak is given.
-pub fn push_curve(
-    out: &mut [u8],
-    at: usize,
-    numbers: &[u32; 360],
-    kinds: &[Kind; 360],
-    fold: bool,
-    peak: u32,
-) -> usize
-    requires { (at + 52400 ≤ length out.old) × (peak ≤ 200000) }
-    ensures { Put 52400 out.old at (curve_text numbers.now kinds.now fold peak) out.new result }
+pub fn push_curve<const N: usize>(page: &mut Page<N>, row: &Row, fold: bool, peak: u32)
+    requires { (length page.old + 52400 ≤ N) × (peak ≤ 200000) }
+    ensures { Put 52400 page.old (curve_text row.now.numbers row.now.kinds fold peak) page.new }
 {
-    let levels_at = push_bytes(
-        out,
-        at,
+    page.push_bytes(
         b"<g fill='none' stroke='#000' stroke-width='40' stroke-linecap='round' stroke-linejoin='round'>\n",
     );
-    let folded_at = push_stroke(
-        out,
-        levels_at,
-        b"<path d='",
-        numbers,
-        kinds,
-        fold,
-        peak,
-        Stroke::Levels,
-    );
-    let floors_at = push_stroke(
-        out,
-        folded_at,
+    push_stroke(page, b"<path d='", row, fold, peak, Stroke::Levels);
+    push_stroke(
+        page,
         b"<path stroke='#999' d='",
-        numbers,
-        kinds,
+        row,
         fold,
         peak,
         Stroke::Folded,
     );
-    let end = push_stroke(
-        out,
-        floors_at,
+    push_stroke(
+        page,
         b"<path stroke-dasharray='50 90' d='",
-        numbers,
-        kinds,
+        row,
         fold,
         peak,
         Stroke::Floors,
     );
-    push_bytes(out, end, b"</g>\n")
+    page.push_bytes(b"</g>\n");
 }
 
 // Whether a floor is among the kinds.

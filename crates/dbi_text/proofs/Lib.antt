@@ -1,4 +1,2 @@
--- What the proofs of several functions cite: how long lines are (`Lengths`), one line more (`Growing`), and that what is written lies in the buffer (`Answers`).
-mod Lengths
+-- What a loop over the lines goes by: one line more.
 mod Growing
-mod Answers

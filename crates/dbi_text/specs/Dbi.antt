@@ -1,6 +1,5 @@
 -- Issue 27, "`--dbi`: azimuth, gain in dBi with two decimals, kind": its text in ASCII. Definitions only.
 use Rattle.std.specs.Prelude.{ℕ, suc, cond, List, [], ◌∷◌, ◌++◌, ltb}
-pub use Rattle.words.specs.Writing.{Wrote}
 use Rattle.quoted.specs.Quoted.{quoted}
 use Rattle.numerals.specs.Numeral.{numeral}
 use Rattle.hundredths.specs.Decimals.{two_decimals}

@@ -6,6 +6,7 @@ use Prim.Native.Nat.{ℕ}
 use borrow.Author.Tests.{eqb-true, not-true}
 use lib.Dec.{eqb}
 use lib.Ieee.{Float, add, sub, mul, div, rem, neg, round, le, lt, eq, ne, of_bits, of_int, to_signed, to_unsigned}
+use Rattle.std.specs.Float.{float_with_sign}
 use Rattle.numeric.specs.Rounding.{F}
 use Rattle.sine.specs.Sine.{quarter, past, next_term, sums, cut, sine_units, cosine_units, sine_at, cosine_at, sine, cosine}
 use Rattle.root.specs.Root.{root_of, root, sqrt_of}
@@ -55,7 +56,7 @@ unfolding limits refusal_of design_ok band_ok slots_ok start_of start_ok slew_ok
 within = (refl, refl)
 
 searched : (takes 141 (search_of dear_station) ≡ true) × (takes 140 (search_of silent_station) ≡ true)
-unfolding takes search_refused jant_of start_of slewed_of model_of elements_of no_elements constants_of own_of array_own constants_with given number non_zero trig_tables filled_to ground_of ground_to factors_at over_ground stack_of stack_to mixed ref_cof table_of blank_table type_ok array_type log_periodic crossed_type gainorm_of aim_of plane_searched plane_of plane_elevation sweep_of sweep_directions sweep_read azmax_of azmax_directions azmax_read turns_in read_over azimuths_from elevations_after plateau_centre tallied untold raised_of elevations_of elevation_directions elevation_read refined_of last_searched wrapped gain_rel gain_in factors_in quadrant_of in_first in_second in_third back180 direction_of behind_screen gain2 array_gain dipole_factor row_factor ground_factor reflector_factor cosine_sum sine_sum nint_of ifix_of turns_of sine cosine sine_at cosine_at sine_units cosine_units cut sums next_term past quarter F sqrt_of root root_of add sub mul div rem neg round le lt eq ne of_bits of_int to_signed to_unsigned
+unfolding takes search_refused jant_of start_of slewed_of model_of elements_of no_elements constants_of own_of array_own constants_with given number non_zero trig_tables filled_to ground_of ground_to factors_at over_ground stack_of stack_to mixed ref_cof table_of blank_table type_ok array_type log_periodic crossed_type gainorm_of aim_of plane_searched plane_of plane_elevation sweep_of sweep_directions sweep_read azmax_of azmax_directions azmax_read turns_in read_over azimuths_from elevations_after plateau_centre tallied untold raised_of elevations_of elevation_directions elevation_read refined_of last_searched wrapped gain_rel gain_in factors_in quadrant_of in_first in_second in_third back180 direction_of behind_screen gain2 array_gain dipole_factor row_factor ground_factor reflector_factor cosine_sum sine_sum nint_of ifix_of turns_of sine cosine sine_at cosine_at sine_units cosine_units cut sums next_term past quarter F sqrt_of root root_of add sub mul div rem neg round le lt eq ne of_bits of_int to_signed to_unsigned float_with_sign
 searched = (refl, refl)
 
 met : (p : List Float) (n : ℕ) → limits p → takes n (search_of p) ≡ true → Takes p n

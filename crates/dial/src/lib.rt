@@ -8,6 +8,15 @@
 ghost use Rattle.std.specs.Prelude.{◌≡◌, ◌≤◌, ◌<◌};
 ghost use Rattle.dial.specs.Scale.{better_of, peak_azimuth, top_of, bottom_of, span_of, radius_of};
 
+use answers::Kind;
+
+// A row: raised hundredths azimuth by azimuth, and what each is.
+#[derive(Clone, Copy)]
+pub struct Row {
+    pub numbers: [u32; 360],
+    pub kinds: [Kind; 360],
+}
+
 // Inner step: of two azimuths the one whose number is greater.
 #[tactic(auto, unfolding(crate::specs::Scale::better_of))]
 pub fn better(numbers: &[u32; 360], best: usize, v: usize) -> usize

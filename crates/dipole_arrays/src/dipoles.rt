@@ -34,7 +34,7 @@ fn dipole_factor(p: f32, c: f32, d: Direction) -> f32
 {
     let a11 = d.a1 * d.b0;
     let b2 = sine::cos(p * a11) - c;
-    let w0 = numeric::float::abs(1.0 - a11 * a11);
+    let w0 = (1.0 - a11 * a11).abs();
     b2 / w0
 }
 
@@ -46,7 +46,7 @@ fn ground_factor(w: Factors, d: Direction) -> f32
     let w7t = d.a1 * d.a0;
     let w7 = w7t * w7t * (w.w4 * w.w4 + w.w3 * w.w3);
     let w8 = d.b1 * d.b1 * (w.w5 * w.w5 + w.w6 * w.w6);
-    root::sqrt(numeric::float::abs(w7 + w8))
+    root::sqrt((w7 + w8).abs())
 }
 
 // How much type 1's aperiodic screen reflects.
@@ -65,7 +65,7 @@ fn screen_front(q2: f32, p11s: f32, d: Direction) -> f32
     ensures { result ≡ screen_front q2 p11s d }
 {
     let c = sine::cos(p11s * d.b0 * d.b1);
-    root::sqrt(numeric::float::abs(1.0 + q2 * q2 - 2.0 * q2 * c))
+    root::sqrt((1.0 + q2 * q2 - 2.0 * q2 * c).abs())
 }
 
 // Type 1's screen.
@@ -86,7 +86,7 @@ fn reflector_factor(k: Constants, d: Direction) -> f32
     ensures { result ≡ reflector_factor k d }
 {
     let c = sine::cos(k.p11 - k.p11 * d.b0 * d.b1);
-    root::sqrt(numeric::float::abs(1.0 + k.q2 * k.q2 + 2.0 * k.q2 * c))
+    root::sqrt((1.0 + k.q2 * k.q2 + 2.0 * k.q2 * c).abs())
 }
 
 // The arms' product: p and c are the dipole's, z2 what stands behind or beside it, pfb the phase

@@ -1,18 +1,23 @@
 // `parmprec` for one element of a log-periodic at one elevation.
 ghost use Rattle.std.specs.Prelude.{◌≡◌, ◌<◌};
+ghost use Rattle.model.specs.Types.{type_number};
 ghost use Rattle.elevation.specs.Entry.{delta_of, horizontal_entry, vertical_entry, entry_of, with_entry};
 
 use crate::reflection::Reflection;
 use model::record::Entry;
 use model::table::{PART, ROW, SIZE};
+use model::types::AntennaType;
 
 // The phase for each unit of height.
 #[tactic(auto, unfolding(crate::specs::Entry::delta_of))]
-pub fn delta_of(iant: u32, beta: f32, a0: f32) -> f32
-    ensures { result ≡ delta_of iant beta a0 }
+pub fn delta_of(kind: AntennaType, beta: f32, a0: f32) -> f32
+    ensures { result ≡ delta_of (type_number kind) beta a0 }
 {
     let delta = beta * 2.0 * a0;
-    if iant == 6 { delta / 2.0 } else { delta }
+    match kind {
+        AntennaType::VerticalLogPeriodic => delta / 2.0,
+        _ => delta,
+    }
 }
 
 // The horizontal one, type 5: au and bu are the phase's sine and cosine.
@@ -43,15 +48,14 @@ fn vertical_entry(r: Reflection, au: f32, bu: f32) -> Entry
 
 // A type's entry, from the reflection and the element's phase.
 #[tactic(auto, unfolding(crate::specs::Entry::entry_of))]
-pub fn entry_of(iant: u32, r: Reflection, phase: f32) -> Entry
-    ensures { result ≡ entry_of iant r phase }
+pub fn entry_of(kind: AntennaType, r: Reflection, phase: f32) -> Entry
+    ensures { result ≡ entry_of (type_number kind) r phase }
 {
     let au = sine::sin(phase);
     let bu = sine::cos(phase);
-    if iant == 6 {
-        vertical_entry(r, au, bu)
-    } else {
-        horizontal_entry(r, au, bu)
+    match kind {
+        AntennaType::VerticalLogPeriodic => vertical_entry(r, au, bu),
+        _ => horizontal_entry(r, au, bu),
     }
 }
 

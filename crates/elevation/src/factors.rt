@@ -1,11 +1,12 @@
 // `parmprec` at one elevation: the ground-reflection factors of all types but the log-periodic
 // ones, 5 and 6.
 ghost use Rattle.std.specs.Prelude.{◌≡◌};
-ghost use Rattle.elevation.specs.Factors.{single, stack_to, stack_of, mixed, bare, no_factors, over_ground, factors_at};
+ghost use Rattle.model.specs.Types.{type_number};
+ghost use Rattle.elevation.specs.Factors.{single, stack_to, stack_of, mixed, bare, no_factors, factors_at};
 
-use crate::reflection::Reflection;
+use crate::reflection::{Reflection, refcof};
 use model::record::{Constants, Factors};
-use model::types::{array_type, crossed_type};
+use model::types::AntennaType;
 
 // The summed cosines, w1, and sines, w2, of a stack of dipoles over ground.
 #[derive(Clone, Copy)]
@@ -44,15 +45,17 @@ fn stacked(h1: f32, pfra: f32, n: u32) -> Stack
 
 // A type's dipoles at the elevation whose sine is a0.
 #[tactic(auto, unfolding(crate::specs::Factors::stack_of))]
-fn stack_of(iant: u32, k: Constants, a0: f32) -> Stack
-    ensures { result ≡ stack_of iant k a0 }
+fn stack_of(kind: AntennaType, k: Constants, a0: f32) -> Stack
+    ensures { result ≡ stack_of (type_number kind) k a0 }
 {
     let pfra = k.pfr * a0 * 2.0;
-    if iant >= 4 {
-        return one_dipole(k.h1, pfra);
+    match kind {
+        AntennaType::Multiband | AntennaType::CentreFed | AntennaType::EndFed => {
+            let count = floats::rounding::nint(k.r3 - 1.0);
+            stacked(k.h1, pfra, floats::rounding::turns(count))
+        }
+        _ => one_dipole(k.h1, pfra),
     }
-    let count = floats::rounding::nint(k.r3 - 1.0);
-    stacked(k.h1, pfra, floats::rounding::turns(count))
 }
 
 // The dipoles with their reflection.
@@ -104,25 +107,19 @@ fn no_factors() -> Factors
     }
 }
 
-// The types that are dipoles over ground.
-#[tactic(auto, unfolding(crate::specs::Factors::over_ground))]
-fn over_ground(iant: u32) -> bool
-    ensures { result ≡ over_ground iant }
-{
-    array_type(iant) | crossed_type(iant)
-}
-
 // At the elevation whose sine and cosine are a0 and b0.
-#[tactic(auto, unfolding(crate::specs::Factors::factors_at))]
-pub fn factors_at(iant: u32, k: Constants, a0: f32, b0: f32) -> Factors
-    ensures { result ≡ factors_at iant k a0 b0 }
+#[tactic(auto, unfolding(crate::specs::Factors::factors_at, crate::specs::Factors::over_ground, model::specs::Types::array_type, model::specs::Types::crossed_type))]
+pub fn factors_at(kind: AntennaType, k: Constants, a0: f32, b0: f32) -> Factors
+    ensures { result ≡ factors_at (type_number kind) k a0 b0 }
 {
-    if over_ground(iant) {
-        let s = stack_of(iant, k, a0);
-        return mix(s, crate::reflection::refcof(a0, b0, k.d1, k.e1));
+    match kind {
+        AntennaType::Multiband
+        | AntennaType::CentreFed
+        | AntennaType::EndFed
+        | AntennaType::Tropical
+        | AntennaType::Quadrant
+        | AntennaType::CrossedDipoles => mix(stack_of(kind, k, a0), refcof(a0, b0, k.d1, k.e1)),
+        AntennaType::Rhombic => bare_reflection(refcof(a0, b0, k.d1, k.e1)),
+        AntennaType::HorizontalLogPeriodic | AntennaType::VerticalLogPeriodic => no_factors(),
     }
-    if iant == 7 {
-        return bare_reflection(crate::reflection::refcof(a0, b0, k.d1, k.e1));
-    }
-    no_factors()
 }

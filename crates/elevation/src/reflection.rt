@@ -18,8 +18,8 @@ pub fn refcof(a0: f32, b0: f32, d1: f32, e1: f32) -> Reflection
 {
     let c1 = e1 - b0 * b0;
     let c11 = root::sqrt(c1 * c1 + d1 * d1);
-    let e2 = root::sqrt(numeric::float::abs(c1 + c11) / 2.0);
-    let f2 = root::sqrt(numeric::float::abs(-c1 + c11) / 2.0);
+    let e2 = root::sqrt((c1 + c11).abs() / 2.0);
+    let f2 = root::sqrt((-c1 + c11).abs() / 2.0);
     let rk1 = e1 * a0 - e2;
     let rl1 = rk1 + e2 * 2.0;
     let rm1 = d1 * a0 - f2;

@@ -1,13 +1,13 @@
 // The names of the fields, in the order in which a missing one is told. A field goes by its number: the
 // table counts by it, and C callers get it with a mistake.
 ghost use Rattle.std.specs.Prelude.{◌≡◌, ◌+◌, ◌≤◌, length};
-ghost use Rattle.words.specs.Writing.{Wrote};
+ghost use Rattle.words.specs.Writing.{Put};
 ghost use Rattle.lines.specs.Alike.{alike};
 ghost use Rattle.fields.specs.Names.{FIELDS, name_of, field_of};
 
 use crate::first::least;
 use lines::same;
-use words::bytes::push_bytes;
+use words::page::Page;
 
 pub const TYPE: usize = 1;
 
@@ -115,10 +115,10 @@ pub fn field_of(word: &[u8]) -> usize
 }
 
 // Inner step: the name of field f.
-#[tactic(auto, using(crate::proofs::Lengths::name_length))]
-pub fn push_name(out: &mut [u8], at: usize, f: usize) -> usize
-    requires { at + 10 ≤ length out.old }
-    ensures { Wrote out.old at (name_of f) out.new result }
+#[tactic(auto, using(words::proofs::Writing::at_most, crate::proofs::Lengths::name_length))]
+pub fn push_name<const N: usize>(page: &mut Page<N>, f: usize)
+    requires { length page.old + 10 ≤ N }
+    ensures { Put 10 page.old (name_of f) page.new }
 {
-    push_bytes(out, at, name_of(f))
+    page.push_bytes(name_of(f));
 }

@@ -6,6 +6,7 @@ use mathlib.Core.List.{List}
 use mathlib.Core.Logic.{⊎_elim}
 use native.Mathlib.Nat.{eq-or-lt_of_le, le_refl}
 use native.Mathlib.Omega.{arith}
+use native.Mathlib.Numerals.{add-one}
 use borrow.Author.Tests.{ltb-true, ltb-false, le-ltb, eqb-false}
 use lib.Dec.{ltb, eqb}
 use lib.IntN.{ℤ, pos, negsuc, neg_ℤ, ◌+ℤ◌, +ℤ_comm, neg_ℤ-+ℤ, neg_ℤ-neg_ℤ}
@@ -35,13 +36,17 @@ meet p r k h =
 module _ (numbers : List ℕ) where
   -- ---- what lies behind
 
+  pub behind_none : behind_to numbers 0 ≡ 90
+  unfolding behind_to
+  behind_none = refl
+
   -- one number more
-  pub behind_more : (v : ℕ) → 91 ≤ v → behind_to numbers (v - 90) ≡ better_of numbers (behind_to numbers (v - 91)) v
+  pub behind_more : (v : ℕ) → 91 ≤ v → behind_to numbers (v + 1 - 91) ≡ better_of numbers (behind_to numbers (v - 91)) v
   unfolding behind_to
   behind_more v h = go (v - 91) (omega arith)
     where
-      go : (n : ℕ) → v ≡ 91 + n → behind_to numbers (v - 90) ≡ better_of numbers (behind_to numbers n) v
-      go n e = let d : v - 90 ≡ suc n = omega arith in rw (d, e)
+      go : (n : ℕ) → v ≡ 91 + n → behind_to numbers (v + 1 - 91) ≡ better_of numbers (behind_to numbers n) v
+      go n e = let d : v + 1 - 91 ≡ suc n = omega arith in rw (d, e)
 
   -- from 90 to 90 + n no number is above it, and those before it are below
   record Greatest (n p : ℕ) : Type 0 where
@@ -181,6 +186,14 @@ difference_below a b h =
 
 -- ---- who leads
 
+pub count_none : (test : ℕ → Bool) → count_to test 0 ≡ 0
+unfolding count_to
+count_none test = refl
+
+pub count_more : (test : ℕ → Bool) (n : ℕ) → count_to test (n + 1) ≡ count_to test n + cond (test n) 1 0
+unfolding count_to
+count_more test n = rw add-one refl
+
 -- two rows never lead each other at the same azimuth
 module _ (a : List ℕ) (ka : List Kind) (b : List ℕ) (kb : List Kind) where
   pub leads-apart : (v : ℕ) → leads_at a ka b v ≡ true → leads_at b kb a v ≡ false
@@ -209,6 +222,6 @@ module _ (a : List ℕ) (ka : List Kind) (b : List ℕ) (kb : List Kind) where
       go i j false false h l = omega arith
 
   -- so that both counts together are at most all azimuths
-  pub leads-sum : leads_of a ka b + leads_of b kb a ≤ 360
+  pub leads_sum : leads_of a ka b + leads_of b kb a ≤ 360
   unfolding leads_of
-  leads-sum = sum_to 360
+  leads_sum = sum_to 360

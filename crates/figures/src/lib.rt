@@ -3,20 +3,21 @@
 // What a buyer asks of a row, and of two: where the greatest number behind is (`behind_of`, from 90 to
 // 270; `behind-greatest`, `behind-first`), how far it lies below the front (`front_to_back`), how wide the
 // beam is at 3 dB (`beam_of`; at most 360: `beam_most`), and in how many azimuths one row leads another
-// (`leads_of`; two rows never lead each other at once: `leads-apart`, `leads-sum`). Definitions in
+// (`leads_of`; two rows never lead each other at once: `leads-apart`, `leads_sum`). Definitions in
 // specs/Figures.antt, laws in proofs/Laws.antt. Rows are 360 raised hundredths as crate `hundredths` has
 // them, with kinds; all is said of any numbers.
 ghost use Rattle.std.specs.Prelude.{◌≡◌, ◌+◌, ◌-◌, ◌≤◌, ◌<◌, leb, length};
 ghost use Rattle.dial.specs.Scale.{peak_azimuth};
-ghost use Rattle.labels.specs.Writing.{Put};
+ghost use Rattle.words.specs.Writing.{Put};
 ghost use Rattle.figures.specs.Figures.{behind_of, difference, steps_of, beam_of, leads_at, leads_of};
 
 use answers::Kind;
-use dial::{better, peak_azimuth};
+use dial::{Row, better, peak_azimuth};
 use hundredths::decimals::push_hundredths;
-use words::bytes::{push, push_bytes};
+use words::page::Page;
 
 // The azimuth of the greatest number from 90 to 270.
+#[tactic(auto, using(crate::proofs::Laws::behind_none, crate::proofs::Laws::behind_more), unfolding(crate::specs::Figures::behind_of))]
 pub fn behind(numbers: &[u32; 360]) -> usize
     ensures { (result ≡ behind_of numbers.now) × (result < 360) }
 {
@@ -28,16 +29,17 @@ pub fn behind(numbers: &[u32; 360]) -> usize
 }
 
 // Inner step: words and the difference of two raised numbers, with a sign where it's below 0.
-pub fn push_difference(out: &mut [u8], at: usize, words: &[u8], a: u32, b: u32) -> usize
-    requires { at + (length words.now + 14) ≤ length out.old }
-    ensures { Put (length words.now + 14) out.old at (difference words.now a b) out.new result }
+pub fn push_difference<const N: usize>(page: &mut Page<N>, words: &[u8], a: u32, b: u32)
+    requires { length page.old + (length words.now + 14) ≤ N }
+    ensures { Put (length words.now + 14) page.old (difference words.now a b) page.new }
 {
-    let number_at = push_bytes(out, at, words);
+    page.push_bytes(words);
     if b <= a {
-        return push_hundredths(out, number_at, a - b);
+        push_hundredths(page, a - b);
+    } else {
+        page.push(b'-');
+        push_hundredths(page, b - a);
     }
-    let size_at = push(out, number_at, b'-');
-    push_hundredths(out, size_at, b - a)
 }
 
 // Whether a number is at most 3 dB below the peak.
@@ -76,23 +78,24 @@ pub fn beam(numbers: &[u32; 360]) -> usize
     clockwise + 1 + steps(numbers, peak_at, 359)
 }
 
-// Inner step: whether the first row, with its kinds, leads the second at an azimuth.
+// Inner step: whether the first row leads the second at an azimuth.
 #[tactic(auto, unfolding(crate::specs::Figures::leads_at))]
-pub fn leads_at(first: &[u32; 360], kinds: &[Kind; 360], second: &[u32; 360], v: usize) -> bool
+pub fn leads_at(first: &Row, second: &Row, v: usize) -> bool
     requires { v < 360 }
-    ensures { result ≡ leads_at first.now kinds.now second.now v }
+    ensures { result ≡ leads_at first.now.numbers first.now.kinds second.now.numbers v }
 {
-    matches!(kinds[v], Kind::Level) && second[v] < first[v]
+    matches!(first.kinds[v], Kind::Level) && second.numbers[v] < first.numbers[v]
 }
 
-// In how many azimuths the first row, with its kinds, leads the second.
-pub fn leads(first: &[u32; 360], kinds: &[Kind; 360], second: &[u32; 360]) -> usize
-    ensures { (result ≡ leads_of first.now kinds.now second.now) × (result ≤ 360) }
+// In how many azimuths the first row leads the second.
+#[tactic(auto, using(crate::proofs::Laws::count_none, crate::proofs::Laws::count_more), unfolding(crate::specs::Figures::leads_of))]
+pub fn leads(first: &Row, second: &Row) -> usize
+    ensures { (result ≡ leads_of first.now.numbers first.now.kinds second.now.numbers) × (result ≤ 360) }
 {
     // a loop: of `(0..360).filter(..).count()` the search unfolds all 360 numbers, and gives up
     let mut n = 0;
     for v in 0..360 {
-        if leads_at(first, kinds, second, v) {
+        if leads_at(first, second, v) {
             n += 1;
         }
     }

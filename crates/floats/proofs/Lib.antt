@@ -2,7 +2,6 @@
 pub mod Tests
 pub mod Below
 pub mod WholeNumbers
-pub mod Naturals
 pub mod Edges
 pub mod Filled
 pub mod Negation

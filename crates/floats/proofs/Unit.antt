@@ -10,6 +10,7 @@ use lib.IntN.{ℤ}
 use lib.Ieee.{Float, nan, inf, fin, Format, binary32, low, emax, prec, up, down, unlike, odd, units, round, sum, sub, mul, le, of_bits}
 use lib.Ieee.Fits.{down_pos, and_l}
 use lib.Ieee.Order.{round_mono}
+use Rattle.std.specs.Float.{float_with_sign}
 use Rattle.numeric.specs.Float.{mag}
 use Rattle.numeric.proofs.Laws.{mag-neg}
 use Rattle.floats.specs.Ops.{◌⊖◌, ◌⊗◌}
@@ -22,7 +23,7 @@ InUnit x = T (le (mag x) one)
 -- ---- roundings without a sign
 
 mag-odd : (d q k l : ℕ) → mag (odd d false q k l) ≡ odd d false q k l
-unfolding odd
+unfolding odd float_with_sign
 mag-odd d zero k l = refl
 mag-odd d (suc q) k l = refl
 
@@ -31,7 +32,7 @@ mag-cond true x y p q = p
 mag-cond false x y p q = q
 
 mag-units : (f : Format) (q k : ℕ) → mag (units f false q k) ≡ units f false q k
-unfolding units
+unfolding units float_with_sign
 mag-units f q k = mag-cond (ltb (q * 2 ^ k) (2 ^ (low f + suc (emax f)))) (odd (suc (prec f)) false q k (low f)) (inf false) (mag-odd (suc (prec f)) q k (low f)) refl
 
 mag-round : (f : Format) (n d : ℕ) → mag (round f false n d) ≡ round f false n d
@@ -56,7 +57,7 @@ le_or a b = go (ltb a b) (ltb→lt a b)
     go false l h = le_of_eq (eqb→eq a b (and_l (eqb a b) true h))
 
 within : (s : Bool) (m : ℕ) (e : ℤ) → InUnit (fin s m e) → m * up e ≤ down e
-unfolding le of_bits
+unfolding le of_bits float_with_sign
 within s m e h = omega (arith, le_or (m * up e * 1) (1 * 1 * down e) h)
 
 unit_round : (s : Bool) (n d : ℕ) → 0 < d → n ≤ d → InUnit (round binary32 s n d)
@@ -65,7 +66,7 @@ unit_round s n d p h = rw (unsigned, ← one-is) (round_mono binary32 n d 1 1 p 
 -- ---- products
 
 pub unit_mul : (x y : Float) → InUnit x → InUnit y → InUnit (x ⊗ y)
-unfolding mul le of_bits
+unfolding mul le of_bits float_with_sign
 unit_mul nan y p q = absurd p
 unit_mul (inf s) y p q = absurd p
 unit_mul (fin s m e) nan p q = absurd q
@@ -80,14 +81,14 @@ unlike_itself true = refl
 unlike_itself false = refl
 
 mag-square : (x : Float) → mag (x ⊗ x) ≡ x ⊗ x
-unfolding mul
+unfolding mul float_with_sign
 mag-square nan = refl
 mag-square (inf true) = refl
 mag-square (inf false) = refl
 mag-square (fin s m e) = rw unlike_itself (mag-round binary32 (m * up e * (m * up e)) (down e * down e))
 
 mag-from-one : (x : Float) → InUnit x → mag (one ⊖ mag x) ≡ one ⊖ mag x
-unfolding sub sum le of_bits
+unfolding sub sum le of_bits float_with_sign
 mag-from-one nan h = absurd h
 mag-from-one (inf s) h = absurd h
 mag-from-one (fin s m e) h =

@@ -7,6 +7,7 @@ use numeric::bits::bits_of;
 use search::record::Peak;
 
 // Inner step: writes the reading count's low half and the peak's bits over the first four words.
+#[tactic(auto, unfolding(crate::specs::Search::search_words, words::specs::Laid::laid))]
 pub fn put_search(out: &mut [u32], readings: u64, peak: Peak)
     requires { 4 ≤ length out.old }
     ensures { out.new ≡ laid out.old 0 (search_words readings peak) }

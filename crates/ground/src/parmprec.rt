@@ -4,6 +4,7 @@ ghost use Rattle.std.specs.Prelude.{◌≡◌, true, ℕ, ◌≤◌, ◌<◌, ge
 ghost use Rattle.std.specs.Float.{nan};
 ghost use Rattle.floats.specs.Ops.{◌⊗◌};
 ghost use Rattle.model.specs.Counts.{elements_ok, counts_ok};
+ghost use Rattle.model.specs.Types.{type_number};
 ghost use Rattle.ground.specs.Ground.{ground_of};
 ghost use Rattle.elevation.specs.Entry.{entry_of};
 ghost use Rattle.ground.specs.Table.{row_to, elevations_to, table_of};
@@ -11,12 +12,12 @@ ghost use Rattle.ground.specs.Table.{row_to, elevations_to, table_of};
 use elevation::reflection::Reflection;
 use model::record::{Constants, Elements, Ground, Model, Trig};
 use model::table::{SIZE, blank_table};
-use model::types::log_periodic;
+use model::types::AntennaType;
 
 // Inner step of set-up, the tables by elevation: those of every type but 5 and 6, which leave 0.
 #[tactic(auto, unfolding(crate::specs::Ground::ground_to, floats::specs::Filled::filled_to, crate::specs::Ground::ground_of))]
-pub fn ground_of(iant: u32, k: Constants, t: Trig) -> Ground
-    ensures { result ≡ ground_of iant k t }
+pub fn ground_of(kind: AntennaType, k: Constants, t: Trig) -> Ground
+    ensures { result ≡ ground_of (type_number kind) k t }
 {
     let mut g = Ground {
         w3: [0.0; 91],
@@ -27,7 +28,7 @@ pub fn ground_of(iant: u32, k: Constants, t: Trig) -> Ground
         w10: [0.0; 91],
     };
     for u in 0..91 {
-        let f = elevation::factors::factors_at(iant, k, t.a[u], t.b[u]);
+        let f = elevation::factors::factors_at(kind, k, t.a[u], t.b[u]);
         g.w3[u] = f.w3;
         g.w4[u] = f.w4;
         g.w5[u] = f.w5;
@@ -41,13 +42,20 @@ pub fn ground_of(iant: u32, k: Constants, t: Trig) -> Ground
 // The active elements at elevation u, where the reflection is r and the phase delta for each
 // unit of height.
 #[tactic(auto, using(model::proofs::ActiveElements::active_below), unfolding(crate::specs::Table::row_to))]
-fn fill_row(t: &mut [f32; SIZE], u: usize, iant: u32, r: Reflection, delta: f32, elements: Elements)
+fn fill_row(
+    t: &mut [f32; SIZE],
+    u: usize,
+    kind: AntennaType,
+    r: Reflection,
+    delta: f32,
+    elements: Elements,
+)
     requires { (u < 91) × (elements.nat ≤ 30) × (elements_ok elements.iek elements.nat ≡ true) }
-    ensures { t.new ≡ row_to (λ (i : ℕ). entry_of iant r (delta ⊗ get_or elements.h i nan)) elements.iek u t.old elements.nat }
+    ensures { t.new ≡ row_to (λ (i : ℕ). entry_of (type_number kind) r (delta ⊗ get_or elements.h i nan)) elements.iek u t.old elements.nat }
 {
     for k in 0..elements.nat {
         let i = elements.iek[k + 1];
-        let w = elevation::entry::entry_of(iant, r, delta * elements.h[i]);
+        let w = elevation::entry::entry_of(kind, r, delta * elements.h[i]);
         elevation::entry::put_entry(t, u, i, w);
     }
 }
@@ -55,8 +63,8 @@ fn fill_row(t: &mut [f32; SIZE], u: usize, iant: u32, r: Reflection, delta: f32,
 // All elevations. The source works the reflection out anew for each element; it is the same for
 // all of them.
 #[tactic(auto, using(model::proofs::ActiveElements::few_active, model::proofs::ActiveElements::active_named), unfolding(crate::specs::Table::elevations_to))]
-fn fill_elevations(t: &mut [f32; SIZE], m: Model)
-    requires { counts_ok m ≡ true }
+fn fill_elevations(t: &mut [f32; SIZE], kind: AntennaType, m: Model)
+    requires { (type_number kind ≡ m.iant) × (counts_ok m ≡ true) }
     ensures { t.new ≡ elevations_to m t.old 91 }
 {
     let trig = m.trig;
@@ -64,21 +72,22 @@ fn fill_elevations(t: &mut [f32; SIZE], m: Model)
     for u in 0..91 {
         let a0 = trig.a[u];
         let r = elevation::reflection::refcof(a0, trig.b[u], m.constants.d1, m.constants.e1);
-        let delta = elevation::entry::delta_of(m.iant, m.constants.beta, a0);
-        fill_row(t, u, m.iant, r, delta, elements);
+        let delta = elevation::entry::delta_of(kind, m.constants.beta, a0);
+        fill_row(t, u, kind, r, delta, elements);
     }
 }
 
 // Inner step of set-up, for a record whose counts it has accepted: the flat table of the
 // log-periodic types, blank for all others.
-#[tactic(auto, unfolding(crate::specs::Table::table_of))]
+#[tactic(auto, using(model::proofs::TypeNumbers::untyped_no_boom), unfolding(crate::specs::Table::table_of))]
 pub fn table_of(m: Model) -> [f32; SIZE]
     requires { counts_ok m ≡ true }
     ensures { result ≡ table_of m }
 {
     let mut t = blank_table();
-    if log_periodic(m.iant) {
-        fill_elevations(&mut t, m);
+    match AntennaType::try_from(m.iant) {
+        Ok(kind) if kind.is_log_periodic() => fill_elevations(&mut t, kind, m),
+        _ => {}
     }
     t
 }

@@ -16,13 +16,13 @@ use Rattle.hundredths.proofs.Integers.{sub-pos, shifted_difference}
 use Rattle.hundredths.proofs.Span.{size-le}
 
 -- ---- what lowering gives
-pub lowered-below : (r : ℕ) → r < 100000 → lowered r ≡ negsuc (99999 - r)
+pub lowered_below : (r : ℕ) → r < 100000 → lowered r ≡ negsuc (99999 - r)
 unfolding lowered
-lowered-below r h = rw (lt-ltb r 100000 h) (ap negsuc (omega arith))
+lowered_below r h = rw (lt-ltb r 100000 h) (ap negsuc (omega arith))
 
-pub lowered-from : (r : ℕ) → 100000 ≤ r → lowered r ≡ pos (r - 100000)
+pub lowered_from : (r : ℕ) → 100000 ≤ r → lowered r ≡ pos (r - 100000)
 unfolding lowered
-lowered-from r h = sub-pos r 100000 h
+lowered_from r h = sub-pos r 100000 h
 
 pub lowered-difference : (a b : ℕ) → b ≤ a → lowered a -ℤ lowered b ≡ pos (a - b)
 unfolding lowered
@@ -42,19 +42,19 @@ lowered_order a b = go (ltb a 100000) (ltb b 100000) refl refl
     go true true p q =
         let k = ltb-true a 100000 p in
         let l = ltb-true b 100000 q in
-        rw (lowered-below a k, lowered-below b l) (same-leb (99999 - b) (99999 - a) a b (λ h. omega arith) (λ h. omega arith))
+        rw (lowered_below a k, lowered_below b l) (same-leb (99999 - b) (99999 - a) a b (λ h. omega arith) (λ h. omega arith))
     go true false p q =
         let k = ltb-true a 100000 p in
         let l = ltb-false b 100000 q in
-        rw (lowered-below a k, lowered-from b l) (sym (le-leb a b (omega arith)))
+        rw (lowered_below a k, lowered_from b l) (sym (le-leb a b (omega arith)))
     go false true p q =
         let k = ltb-false a 100000 p in
         let l = ltb-true b 100000 q in
-        rw (lowered-from a k, lowered-below b l) (sym (lt-leb a b (omega arith)))
+        rw (lowered_from a k, lowered_below b l) (sym (lt-leb a b (omega arith)))
     go false false p q =
         let k = ltb-false a 100000 p in
         let l = ltb-false b 100000 q in
-        rw (lowered-from a k, lowered-from b l) (same-leb (a - 100000) (b - 100000) a b (λ h. omega arith) (λ h. omega arith))
+        rw (lowered_from a k, lowered_from b l) (same-leb (a - 100000) (b - 100000) a b (λ h. omega arith) (λ h. omega arith))
 
 -- ---- what raising gives, by the sign
 abbrev raised_by : Bool → ℕ → ℕ

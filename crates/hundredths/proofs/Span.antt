@@ -9,6 +9,7 @@ use lib.Dec.{T, leb, ltb, eqb}
 use lib.Ieee.{Float, nan, inf, fin, binary32, of_bits, le, up, down}
 use lib.Ieee.Positive.{num, den, den_pos}
 use lib.Ieee.Scale.{finite}
+use Rattle.std.specs.Float.{float_with_sign}
 use Rattle.numeric.specs.Float.{mag}
 use Rattle.hundredths.specs.Hundredths.{in_span, size_of}
 
@@ -26,7 +27,7 @@ at_most a b = go (leb a b) (eqb a b) refl refl
     go false false l e = rw (le-ltb a b (le_of_lt (leb-false a b l)))
 
 pub span_test : (x : Float) → le (mag x) thousand ≡ in_span x
-unfolding le of_bits in_span
+unfolding le of_bits in_span float_with_sign
 span_test nan = refl
 span_test (inf s) = refl
 span_test (fin s m e) = rw (mul-one (m * up e)) (at_most (m * up e) (1000 * down e))

@@ -13,7 +13,7 @@ use lib.Ieee.Positive.{num, den}
 use borrow.Author.Tests.{lt-ltb}
 use Rattle.numeric.specs.Float.{sign_bit}
 use Rattle.quoted.specs.Quoted.{quoted}
-use Rattle.numerals.specs.Numeral.{numeral_in}
+use Rattle.numerals.specs.Numeral.{numeral_in, numeral}
 use Rattle.hundredths.specs.Hundredths.{signed, hundredths_of}
 use Rattle.hundredths.specs.Decimals.{decimals, two_decimals}
 use Rattle.hundredths.proofs.Nearest.{size-only}
@@ -51,3 +51,7 @@ zero-unsigned x h = rw (size-only x 0 (omega arith) (omega arith)) (go (sign_bit
     go : (s : Bool) → two_decimals (signed s 0) ≡ quoted "0.00"
     go true = refl
     go false = refl
+
+-- the whole part of 32 bits of hundredths
+pub whole_short : (n : ℕ) → n < 2 ^ 32 → length (numeral (n / 100)) ≤ 8
+whole_short n h = numeral-short 10 7 (n / 100) (omega (arith, h))

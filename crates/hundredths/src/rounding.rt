@@ -4,14 +4,13 @@ ghost use Rattle.hundredths.specs.Hundredths.{in_span, size_of};
 ghost use Rattle.hundredths.specs.Raised.{raised_of};
 
 use numeric::bits::bits_of;
-use numeric::float::abs;
 
 // Whether x is at most 1,000 in size: a NaN and an infinity aren't.
 #[tactic(auto, using(crate::proofs::Span::span_test))]
 pub fn in_span(x: f32) -> bool
     ensures { result ≡ in_span x }
 {
-    abs(x) <= 1000.0
+    x.abs() <= 1000.0
 }
 
 // The hundredths of |x|, which is digits / 2^past, by its bits: 100 times that and a half, rounded

@@ -1,3 +1,2 @@
 -- Public is what other crates cite.
-pub mod Put
 pub mod Lengths

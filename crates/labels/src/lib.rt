@@ -1,41 +1,44 @@
 #![tactic(auto)]
 
 // Numbers after their words, as pictures have them: whole ones (`whole`), hundredths with two decimals
-// (`reading`), and whole dBi (`dbi`; specs/Writing.antt). `Put` says what was written and in how many
-// bytes at most, so that a caller knows its room; what is put next to each other is put at once
-// (`next-to`, proofs/Put.antt).
+// (`reading`), and whole dBi (`dbi`; specs/Writing.antt), on a page.
 ghost use Rattle.std.specs.Prelude.{◌+◌, ◌≤◌, length};
-ghost use Rattle.labels.specs.Writing.{Put, whole, reading, dbi};
+ghost use Rattle.words.specs.Writing.{Put};
+ghost use Rattle.labels.specs.Writing.{whole, reading, dbi};
 
 use hundredths::decimals::push_raised;
 use numerals::push_numeral;
-use words::bytes::push_bytes;
+use words::page::Page;
 
 // Inner step: words and a whole number.
-pub fn push_whole(out: &mut [u8], at: usize, words: &[u8], n: u32) -> usize
-    requires { at + (length words.now + 10) ≤ length out.old }
-    ensures { Put (length words.now + 10) out.old at (whole words.now n) out.new result }
+#[tactic(auto, unfolding(crate::specs::Writing::whole))]
+pub fn push_whole<const N: usize>(page: &mut Page<N>, words: &[u8], n: u32)
+    requires { length page.old + (length words.now + 10) ≤ N }
+    ensures { Put (length words.now + 10) page.old (whole words.now n) page.new }
 {
-    let number_at = push_bytes(out, at, words);
-    push_numeral(out, number_at, n)
+    page.push_bytes(words);
+    push_numeral(page, n);
 }
 
 // Inner step: words and raised hundredths.
-pub fn push_reading(out: &mut [u8], at: usize, words: &[u8], raised: u32) -> usize
-    requires { at + (length words.now + 14) ≤ length out.old }
-    ensures { Put (length words.now + 14) out.old at (reading words.now raised) out.new result }
+#[tactic(auto, unfolding(crate::specs::Writing::reading))]
+pub fn push_reading<const N: usize>(page: &mut Page<N>, words: &[u8], raised: u32)
+    requires { length page.old + (length words.now + 14) ≤ N }
+    ensures { Put (length words.now + 14) page.old (reading words.now raised) page.new }
 {
-    let number_at = push_bytes(out, at, words);
-    push_raised(out, number_at, raised)
+    page.push_bytes(words);
+    push_raised(page, raised);
 }
 
 // Inner step: raised hundredths as whole dBi.
-pub fn push_dbi(out: &mut [u8], at: usize, raised: u32) -> usize
-    requires { at + 11 ≤ length out.old }
-    ensures { Put 11 out.old at (dbi raised) out.new result }
+#[tactic(auto, unfolding(crate::specs::Writing::dbi, quoted::specs::Quoted::quoted))]
+pub fn push_dbi<const N: usize>(page: &mut Page<N>, raised: u32)
+    requires { length page.old + 11 ≤ N }
+    ensures { Put 11 page.old (dbi raised) page.new }
 {
     if raised < 100000 {
-        return push_whole(out, at, b"-", (100000 - raised) / 100);
+        push_whole(page, b"-", (100000 - raised) / 100);
+    } else {
+        push_numeral(page, (raised - 100000) / 100);
     }
-    push_numeral(out, at, (raised - 100000) / 100)
 }

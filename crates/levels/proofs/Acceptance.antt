@@ -1,5 +1,5 @@
 -- What is known of words that `can_be_left` accepts, and of those that one level more makes of them. Assumes nothing.
-use mathlib.Core.Path.{◌≡◌, refl, ◌∙◌}
+use mathlib.Core.Path.{◌≡◌, refl, sym, ◌∙◌}
 use mathlib.Core.Bool.{Bool, true, false, cond, not, ◌&&◌, false≢true}
 use mathlib.Core.Logic.{◌⊎◌, inl, inr, ⊎_elim}
 use mathlib.Core.List.{List}
@@ -110,3 +110,14 @@ module _ (s : List ℕ) (a : Accepted s) where
       rw held_after (omega arith),
       rw (next_after_lem, held_after) (⊎_elim (λ w. omega arith) (λ w. omega arith) a.place),
     )
+
+-- ---- what the calls ask of a state
+
+pub readable_left : (s : List ℕ) → can_be_left s ≡ true → Readable s
+readable_left s h = readable s (parts_of s h)
+
+pub takes_more : (s : List ℕ) (x : Float) → 0 ≡ refusal_of s x → (length s ≡ 66) × (held s ≤ 64) × (next s < 64)
+takes_more s x h = let p = passed s x (sym h) in (p.words, p.few, next-below s p)
+
+pub readable_more : (s : List ℕ) (x : Float) → 0 ≡ refusal_of s x → Readable (received s x)
+readable_more s x h = readable_after s (passed s x (sym h)) x

@@ -23,7 +23,7 @@ use display::shown;
 use state::{check, left_by_a_run, receive};
 
 // What the trainer's screen shows: how many levels are held, the greatest and the least of them.
-#[derive(Clone, Copy)]
+#[derive(Clone, Copy, Debug, PartialEq)]
 pub struct Levels {
     pub held: u32,
     pub greatest: f32,
@@ -31,7 +31,7 @@ pub struct Levels {
 }
 
 // One level more, and what is shown then; a refusal leaves the state as it was.
-#[tactic(auto, using(answers::proofs::Outcome::refused_by, answers::proofs::Outcome::granted_by, crate::proofs::Acceptance::kept_by, crate::proofs::Acceptance::changed_by), unfolding(crate::specs::Answers::record_of, crate::specs::Answers::state_after))]
+#[tactic(auto, using(answers::proofs::Outcome::refused_by, answers::proofs::Outcome::granted_by, crate::proofs::Acceptance::kept_by, crate::proofs::Acceptance::changed_by, crate::proofs::Acceptance::takes_more, crate::proofs::Acceptance::readable_more), unfolding(crate::specs::Answers::record_of, crate::specs::Answers::state_after))]
 pub fn record(state: &mut [u32], level: f32) -> Result<Option<Levels>, Refusal>
     ensures value { outcome result ≡ record_of state.old level }
     ensures state_after { state.new ≡ state_after state.old level }
@@ -42,7 +42,7 @@ pub fn record(state: &mut [u32], level: f32) -> Result<Option<Levels>, Refusal>
 }
 
 // What is shown, nothing before the first level.
-#[tactic(auto, unfolding(crate::specs::Answers::show_of))]
+#[tactic(auto, using(crate::proofs::Acceptance::readable_left), unfolding(crate::specs::Answers::show_of))]
 pub fn show(state: &[u32]) -> Result<Option<Levels>, Refusal>
     ensures { outcome result ≡ show_of state.now }
 {

@@ -145,12 +145,12 @@ starts_next s k at c =
 abbrev pub bare : List ℕ → List ℕ
 bare line = take (end_from is_remark line 0) line
 
-pub bare-length : (line : List ℕ) → length (bare line) ≡ end_from is_remark line 0
-bare-length line = length-take-le (end_from is_remark line 0) line (end_le is_remark line 0)
+pub bare_length : (line : List ℕ) → length (bare line) ≡ end_from is_remark line 0
+bare_length line = length-take-le (end_from is_remark line 0) line (end_le is_remark line 0)
 
-pub bare-words : (line : List ℕ) → runs_of (bare line) ≡ words_of line
+pub bare_words : (line : List ℕ) → runs_of (bare line) ≡ words_of line
 unfolding words_of
-bare-words line = ap (λ (n : ℕ). runs_of (take n line)) (sym (sub-zero (end_from is_remark line 0))) ∙ ap runs_of (end_bytes is_remark line 0)
+bare_words line = ap (λ (n : ℕ). runs_of (take n line)) (sym (sub-zero (end_from is_remark line 0))) ∙ ap runs_of (end_bytes is_remark line 0)
 
 -- a part that ends before the remark
 bare-part : (line : List ℕ) (f n : ℕ) → f + n ≤ length (bare line) → take n (drop f line) ≡ take n (drop f (bare line))
@@ -171,7 +171,7 @@ starts_found line k from c =
           bare-part line from (to - from) (omega arith)
           ∙ end_bytes is_blank s from
           ∙ starts_word s k from c
-          ∙ ap (λ (ws : List (List ℕ)). get_or ws k []) (bare-words line);
+          ∙ ap (λ (ws : List (List ℕ)). get_or ws k []) (bare_words line);
       ordered = forward;
-      inside = omega (arith, bare-length line, end_le is_remark line 0);
+      inside = omega (arith, bare_length line, end_le is_remark line 0);
     }

@@ -90,6 +90,7 @@ fn run_count(s: &[u8]) -> usize
 }
 
 // How many words a line has.
+#[tactic(auto, using(crate::proofs::Starts::bare_length, crate::proofs::Starts::bare_words))]
 pub fn word_count(line: &[u8]) -> usize
     ensures { result ≡ length (words_of line.now) }
 {

@@ -1,7 +1,11 @@
 // Where the elements of a log-periodic antenna are: the first half of `logparm`. Elements count
 // from 1, the shortest.
-ghost use Rattle.std.specs.Prelude.{◌≡◌, ◌<◌, ◌≤◌, length};
+ghost use Rattle.std.specs.Prelude.{◌≡◌, ◌<◌, ◌≤◌, replicate};
+ghost use Rattle.floats.specs.Ops.{+0};
+ghost use Rattle.model.specs.Types.{type_number};
 ghost use Rattle.logperiodic.specs.Geometry.{boom, taper, lengths, spacing, along, apex, raised, vertical, horizontal, layout};
+
+use model::types::AntennaType;
 
 // The design: lengths and heights of the longest element, nel, and of the shortest, the distance
 // between them, and the feeder's impedance.
@@ -88,14 +92,22 @@ fn spacing_of(l: f32, sigma: f32) -> f32
 // Places of elements 1 to nel in one direction: the first at start, each next one a spacing times
 // step further.
 #[tactic(auto, unfolding(crate::specs::Geometry::along_to, crate::specs::Geometry::along))]
-fn place_along(p: &mut [f32], nel: usize, start: f32, step: f32, rl: [f32; 36], sigma: f32)
-    requires { (1 ≤ nel) × (nel ≤ 30) × (nel < length p.old) }
-    ensures { p.new ≡ along p.old nel start step rl sigma }
+fn places_along<const N: usize>(
+    nel: usize,
+    start: f32,
+    step: f32,
+    rl: [f32; 36],
+    sigma: f32,
+) -> [f32; N]
+    requires { (1 ≤ nel) × (nel ≤ 30) × (nel < N) }
+    ensures { result ≡ along (replicate N +0) nel start step rl sigma }
 {
+    let mut p = [0.0f32; N];
     p[1] = start;
     for k in 1..nel {
         p[k + 1] = p[k] + spacing_of(rl[k + 1], sigma) * step;
     }
+    p
 }
 
 #[tactic(auto, unfolding(crate::specs::Geometry::apex))]
@@ -141,13 +153,11 @@ fn vertical_layout(d: Design, nel: usize, tau: f32, b: Boom) -> Layout
     let rl = lengths_of(nel, d.rlnel, tau);
     let h0 = d.h1 - d.rl1 * (1.0 + a.theta);
     let h = raised_of(nel, rl, a.theta, h0);
-    let mut y = [0.0f32; 36];
     let y1 = rl[1] / (a.tg23 * (1.0 - a.tg3 / a.tg23));
-    place_along(&mut y, nel, y1, b.costh, rl, a.sigma);
     Layout {
         rl,
         x: [0.0; 36],
-        y,
+        y: places_along(nel, y1, b.costh, rl, a.sigma),
         h,
         sigma: a.sigma,
     }
@@ -161,29 +171,24 @@ fn horizontal_layout(d: Design, nel: usize, tau: f32, b: Boom) -> Layout
     let alftan = (d.rlnel - d.rl1) / d.dc;
     let sigma = (1.0 - tau) / (4.0 * alftan);
     let rl = lengths_of(nel, d.rlnel, tau);
-    let mut x = [0.0f32; 36];
     let x1 = rl[1] / alftan * b.costh;
-    place_along(&mut x, nel, x1, b.costh, rl, sigma);
-    let mut h = [0.0f32; 31];
-    place_along(&mut h, nel, d.h1, b.sinth, rl, sigma);
     Layout {
         rl,
-        x,
+        x: places_along(nel, x1, b.costh, rl, sigma),
         y: [0.0; 36],
-        h,
+        h: places_along(nel, d.h1, b.sinth, rl, sigma),
         sigma,
     }
 }
 
 // Type 5 is horizontal, type 6 vertical.
 #[tactic(auto, unfolding(crate::specs::Geometry::layout))]
-pub(crate) fn layout_of(iant: u32, d: Design, nel: usize, tau: f32, b: Boom) -> Layout
+pub(crate) fn layout_of(kind: AntennaType, d: Design, nel: usize, tau: f32, b: Boom) -> Layout
     requires { (2 ≤ nel) × (nel ≤ 30) }
-    ensures { result ≡ layout iant d nel tau b }
+    ensures { result ≡ layout (type_number kind) d nel tau b }
 {
-    if iant == 5 {
-        horizontal_layout(d, nel, tau, b)
-    } else {
-        vertical_layout(d, nel, tau, b)
+    match kind {
+        AntennaType::HorizontalLogPeriodic => horizontal_layout(d, nel, tau, b),
+        _ => vertical_layout(d, nel, tau, b),
     }
 }

@@ -22,6 +22,6 @@ use station::Station;
 pub fn setmaxgain(s: Station, mhz: f32, design: f32) -> Result<Found, Refusal>
     ensures { outcome_as gain_and_parm result ≡ set_max_gain s.mode s.parm s.gainmax s.gainmaxb mhz design }
 {
-    check(s, mhz, design)?;
-    grade(find(s, mhz, design))
+    let kind = check(s, mhz, design)?;
+    grade(find(s, kind, mhz, design))
 }

@@ -1,8 +1,7 @@
 // The maximum gain by the mode, and the parameters that it changes.
 ghost use Rattle.std.specs.Prelude.{◌≡◌, true, ◌≤◌};
-ghost use Rattle.floats.specs.Ops.{at};
 ghost use Rattle.model.specs.Limits.{in_band};
-ghost use Rattle.model.specs.Types.{jant_of};
+ghost use Rattle.model.specs.Types.{type_number};
 ghost use Rattle.answers.specs.Outcome.{outcome_as};
 ghost use Rattle.maxgain.specs.Maximum.{usable, designed, tuned, tuned_slots, by_ratio, by_mhz, as_given, found, gain_and_parm, graded};
 ghost use Rattle.maxgain.specs.Refusals.{band_ok};
@@ -10,12 +9,12 @@ ghost use Rattle.maxgain.specs.Refusals.{band_ok};
 use answers::Refusal;
 use floats::range::is_between;
 use interpolation::{gainterb, gainterp};
-use model::types::jant;
+use model::types::AntennaType;
 use numeric::float::is_finite;
 use station::Station;
 
 // A maximum gain in dBi, with the twenty parameters that go with it.
-#[derive(Clone, Copy)]
+#[derive(Clone, Copy, Debug, PartialEq)]
 pub struct Found {
     pub gain: f32,
     pub parm: [f32; 20],
@@ -60,12 +59,12 @@ fn tuning_of(mhz: f32, design: f32) -> Tuning
 
 // The parameters with both frequencies; type 8 has its design frequency in slot 5 too.
 #[tactic(auto, unfolding(crate::specs::Maximum::tuned_slots))]
-fn tuned_slots(mut parm: [f32; 20], iant: u32, t: Tuning) -> [f32; 20]
-    ensures { result ≡ tuned_slots parm iant t }
+fn tuned_slots(mut parm: [f32; 20], kind: AntennaType, t: Tuning) -> [f32; 20]
+    ensures { result ≡ tuned_slots parm (type_number kind) t }
 {
     parm[4] = t.foper;
     parm[7] = t.fdesign;
-    if iant == 8 {
+    if kind == AntennaType::Quadrant {
         parm[5] = t.fdesign;
     }
     parm
@@ -84,12 +83,12 @@ fn as_given(parm: [f32; 20]) -> Found
 
 // Mode 1: the gains by frequency ratio.
 #[tactic(auto, unfolding(crate::specs::Maximum::by_ratio))]
-fn by_ratio(parm: [f32; 20], iant: u32, gainmax: [f32; 6], t: Tuning) -> Found
-    ensures { result ≡ by_ratio parm iant gainmax t }
+fn by_ratio(parm: [f32; 20], kind: AntennaType, gainmax: [f32; 6], t: Tuning) -> Found
+    ensures { result ≡ by_ratio parm (type_number kind) gainmax t }
 {
     Found {
-        gain: gainterp(gainmax, t.foper, t.fdesign, iant),
-        parm: tuned_slots(parm, iant, t),
+        gain: gainterp(gainmax, t.foper, t.fdesign, kind),
+        parm: tuned_slots(parm, kind, t),
     }
 }
 
@@ -108,13 +107,13 @@ fn by_mhz(mut parm: [f32; 20], gainmaxb: [f32; 30], mhz: f32) -> Found
 
 // The gain by the station's mode.
 #[tactic(auto, unfolding(crate::specs::Maximum::found, crate::specs::Refusals::band_ok))]
-pub(crate) fn find(s: Station, mhz: f32, design: f32) -> Found
+pub(crate) fn find(s: Station, kind: AntennaType, mhz: f32, design: f32) -> Found
     requires { (s.mode ≤ 2) × (band_ok s.mode mhz ≡ true) }
-    ensures { result ≡ found s.mode (jant_of (at s.parm 1)) s.parm s.gainmax s.gainmaxb mhz design }
+    ensures { result ≡ found s.mode (type_number kind) s.parm s.gainmax s.gainmaxb mhz design }
 {
     match s.mode {
         0 => as_given(s.parm),
-        1 => by_ratio(s.parm, jant(s.parm[1]), s.gainmax, tuning_of(mhz, design)),
+        1 => by_ratio(s.parm, kind, s.gainmax, tuning_of(mhz, design)),
         _ => by_mhz(s.parm, s.gainmaxb, mhz),
     }
 }

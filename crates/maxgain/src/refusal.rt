@@ -1,12 +1,14 @@
 // Why a maximum gain is refused before it is looked for.
-ghost use Rattle.std.specs.Prelude.{◌≡◌};
+ghost use Rattle.std.specs.Prelude.{◌≡◌, IfOk};
 ghost use Rattle.answers.specs.Outcome.{number_of};
+ghost use Rattle.floats.specs.Ops.{at};
+ghost use Rattle.model.specs.Types.{jant_of, type_number};
 ghost use Rattle.maxgain.specs.Refusals.{inputs_finite, band_ok, refusal_of};
 
 use answers::Refusal;
 use floats::range::all_finite;
 use model::limits::in_band;
-use model::types::{jant, type_ok};
+use model::types::{AntennaType, jant};
 use numeric::float::is_finite;
 use station::Station;
 
@@ -26,25 +28,24 @@ fn inputs_finite(s: Station, mhz: f32, design: f32) -> bool
 fn band_ok(mode: u8, mhz: f32) -> bool
     ensures { result ≡ band_ok mode mhz }
 {
-    if mode == 2 { in_band(mhz) } else { true }
+    mode != 2 || in_band(mhz)
 }
 
-// The first refusal of document 01's table.
+// The antenna's type, or the first refusal of document 01's table.
 #[tactic(auto, unfolding(crate::specs::Refusals::refusal_of))]
-pub(crate) fn check(s: Station, mhz: f32, design: f32) -> Result<(), Refusal>
-    ensures { number_of result ≡ refusal_of s.mode s.parm s.gainmax s.gainmaxb mhz design }
+pub(crate) fn check(s: Station, mhz: f32, design: f32) -> Result<AntennaType, Refusal>
+    ensures refusal { number_of result ≡ refusal_of s.mode s.parm s.gainmax s.gainmaxb mhz design }
+    ensures kind { IfOk result (λ kind. type_number kind ≡ jant_of (at s.parm 1)) }
 {
     if !inputs_finite(s, mhz, design) {
         return Err(Refusal::Value);
     }
-    if !type_ok(jant(s.parm[1])) {
-        return Err(Refusal::Type);
-    }
+    let kind = AntennaType::try_from(jant(s.parm[1]))?;
     if s.mode > 2 {
         return Err(Refusal::Mode);
     }
     if !band_ok(s.mode, mhz) {
         return Err(Refusal::Band);
     }
-    Ok(())
+    Ok(kind)
 }

@@ -40,3 +40,7 @@ module _ (m : Model) (ok : counts_ok m ≡ true) where
   active_named =
       let rest = (both (leb m.elements.nat 30) _ ok).1 in
       (both (count_ok m.constants.r2 && count_ok m.constants.r3) _ rest).1
+
+  -- and so each entry names an element
+  pub named_below : (k : ℕ) → k < m.elements.nat → get_or m.elements.iek (k + 1) 0 < 31
+  named_below k l = active_below m.elements.iek m.elements.nat k active_named l

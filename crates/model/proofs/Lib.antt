@@ -3,3 +3,4 @@
 pub mod ActiveElements
 pub mod BlankTable
 pub mod Cells
+pub mod TypeNumbers

@@ -89,6 +89,7 @@ pub struct Ground {
 // is not 0, and the constants and tables.
 #[derive(Clone, Copy)]
 pub struct Model {
+    // the type by its number; a record that a caller kept in words may have any
     pub iant: u32,
     pub slewed: bool,
     pub constants: Constants,

@@ -6,18 +6,12 @@ ghost use Rattle.std.specs.Float.{binary32};
 pub fn float_of(bits: u32) -> f32
     ensures { result ≡ from_bits binary32 bits }
 {
-    if bits % 0x8000_0000 > 0x7F80_0000 {
-        return 0.0 / 0.0;
-    }
-    f32::from_bits(bits)
+    std::num::f32_from_bits_with_nan(bits)
 }
 
 // The pattern of a float.
 pub fn bits_of(x: f32) -> u32
     ensures { result ≡ to_bits binary32 x }
 {
-    if x != x {
-        return 0x7FC0_0000;
-    }
-    f32::to_bits(x)
+    std::num::f32_to_bits_with_nan(x)
 }

@@ -2,7 +2,7 @@
 ghost use Rattle.std.specs.Prelude.{◌≡◌, min, length};
 ghost use Rattle.packed.specs.Lists.{floats, part};
 
-use words::patterns::read_bits;
+use crate::arrays::floats_in;
 
 // A word as a mode. One above 255 is as wrong as 255.
 pub fn mode_of(word: u32) -> u8
@@ -16,7 +16,5 @@ pub fn floats_of(words: &[u32]) -> [f32; 56]
     requires { length words.now ≡ 57 }
     ensures { result ≡ part (floats words.now) 1 56 }
 {
-    let mut out = [0.0f32; 56];
-    read_bits(words, 1, &mut out);
-    out
+    floats_in(words, 1)
 }

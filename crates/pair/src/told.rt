@@ -1,17 +1,18 @@
 // What is told of two masts: the legend, what dashes mean, and the table with the figures of each.
 ghost use Rattle.std.specs.Prelude.{◌+◌, ◌≤◌, ◌≡◌, length};
-ghost use Rattle.labels.specs.Writing.{Put};
+ghost use Rattle.words.specs.Writing.{Put};
 ghost use Rattle.dial.specs.Scale.{peak_of};
 ghost use Rattle.pair.specs.Pair.{greater_peak};
-ghost use Rattle.pair.specs.Told.{figures_of, told_text};
+ghost use Rattle.pair.specs.Told.{shape_of, figures_of, told_text};
 
 use answers::Kind;
 use captions::Heading;
 use curve::has_floor;
-use dial::peak_azimuth;
+use dial::{Row, peak_azimuth};
 use figures::{beam, behind, leads};
-use table::column::{Figures, push_table};
+use table::column::{Figures, Shape, Shown, push_table};
 use table::legend::{push_dashed, push_legend};
+use words::page::Page;
 
 #[tactic(auto, unfolding(dial::specs::Scale::peak_of))]
 fn peak(numbers: &[u32; 360]) -> u32
@@ -28,45 +29,55 @@ pub fn greater_peak(first: &[u32; 360], second: &[u32; 360]) -> u32
     peak(first).max(peak(second))
 }
 
-// What is known of a row beside the other mast's.
-#[tactic(auto, unfolding(crate::specs::Told::figures_of, dial::specs::Scale::peak_of))]
-fn figures_of(numbers: &[u32; 360], kinds: &[Kind; 360], other: &[u32; 360]) -> Figures
-    ensures { result ≡ figures_of numbers.now kinds.now other.now }
+#[tactic(auto, using(dial::proofs::OtherKinds::no_silence, dial::proofs::OtherKinds::no_floor), unfolding(crate::specs::Told::shape_of, dial::specs::Scale::peak_of))]
+fn shape_of(row: &Row) -> Shape
+    ensures { result ≡ shape_of row.now.numbers row.now.kinds }
 {
-    let azimuth = peak_azimuth(numbers);
-    let behind_at = behind(numbers);
-    let width = beam(numbers);
-    let led = leads(numbers, kinds, other);
+    let azimuth = peak_azimuth(&row.numbers);
+    let behind_at = behind(&row.numbers);
+    let width = beam(&row.numbers);
+    match (row.kinds[0], row.kinds[azimuth]) {
+        (Kind::Silence, _) => Shape::Silence,
+        (_, Kind::Floor) => Shape::Floors,
+        _ => Shape::Shown(Shown {
+            azimuth: azimuth as u32,
+            peak: row.numbers[azimuth],
+            beam: width as u32,
+            front: row.numbers[0],
+            behind: row.numbers[behind_at],
+        }),
+    }
+}
+
+// What is known of a mast beside the other one's row.
+#[tactic(auto, unfolding(crate::specs::Told::figures_of))]
+fn figures_of(heading: Heading, row: &Row, other: &Row) -> Figures
+    ensures { result ≡ figures_of heading row.now.numbers row.now.kinds other.now.numbers }
+{
+    let led = leads(row, other);
     Figures {
-        silent: matches!(kinds[0], Kind::Silence),
-        floor: matches!(kinds[azimuth], Kind::Floor),
-        azimuth: azimuth as u32,
-        peak: numbers[azimuth],
-        beam: width as u32,
-        front: numbers[0],
-        behind: numbers[behind_at],
+        heading,
+        shape: shape_of(row),
         leads: led as u32,
     }
 }
 
 // Inner step: all that is told.
-pub fn push_told(
-    out: &mut [u8],
-    at: usize,
-    first: &[u32; 360],
-    first_kinds: &[Kind; 360],
+#[tactic(auto, unfolding(crate::specs::Told::told_text))]
+pub fn push_told<const N: usize>(
+    page: &mut Page<N>,
+    first: &Row,
     first_heading: Heading,
-    second: &[u32; 360],
-    second_kinds: &[Kind; 360],
+    second: &Row,
     second_heading: Heading,
-) -> usize
-    requires { at + 1412 ≤ length out.old }
-    ensures { Put 1412 out.old at (told_text first.now first_kinds.now first_heading second.now second_kinds.now second_heading) out.new result }
+)
+    requires { length page.old + 1412 ≤ N }
+    ensures { Put 1412 page.old (told_text first.now.numbers first.now.kinds first_heading second.now.numbers second.now.kinds second_heading) page.new }
 {
-    let f = figures_of(first, first_kinds, second);
-    let g = figures_of(second, second_kinds, first);
-    let floors = has_floor(first_kinds) | has_floor(second_kinds);
-    let dashed_at = push_legend(out, at, first_heading.antenna, second_heading.antenna);
-    let table_at = push_dashed(out, dashed_at, floors);
-    push_table(out, table_at, first_heading, f, second_heading, g)
+    let f = figures_of(first_heading, first, second);
+    let g = figures_of(second_heading, second, first);
+    let floors = has_floor(&first.kinds) | has_floor(&second.kinds);
+    push_legend(page, first_heading.antenna, second_heading.antenna);
+    push_dashed(page, floors);
+    push_table(page, f, g);
 }

@@ -1,14 +1,15 @@
 // The constants of each type, as the source's `antinit2` sets them from the twenty parameters.
 
-#![tactic(auto, unfolding(crate::specs::TypeConstants::number, crate::specs::TypeConstants::given, crate::specs::TypeConstants::constants_with, crate::specs::TypeConstants::wave_constants, crate::specs::TypeConstants::screen_of, crate::specs::TypeConstants::array_own, crate::specs::TypeConstants::boom_own, crate::specs::TypeConstants::rhombic_own, crate::specs::TypeConstants::crossed_own, crate::specs::TypeConstants::own_of, crate::specs::TypeConstants::constants_of))]
+#![tactic(auto, unfolding(crate::specs::TypeConstants::number, crate::specs::TypeConstants::given, crate::specs::TypeConstants::constants_with, crate::specs::TypeConstants::wave_constants, crate::specs::TypeConstants::screen_of, crate::specs::TypeConstants::array_own, crate::specs::TypeConstants::boom_own, crate::specs::TypeConstants::rhombic_own, crate::specs::TypeConstants::crossed_own, crate::specs::TypeConstants::own_of, crate::specs::TypeConstants::constants_of, model::specs::Types::array_type, model::specs::Types::log_periodic))]
 
 ghost use Rattle.std.specs.Prelude.{◌≡◌};
+ghost use Rattle.model.specs.Types.{type_number};
 ghost use Rattle.parameters.specs.TypeConstants.{rlambda_of, constants_with, wave_constants, screen_of, array_own, boom_own, rhombic_own, crossed_own, constants_of};
 
 use crate::whole::truncated;
 use logperiodic::geometry::Boom;
 use model::record::Constants;
-use model::types::{array_type, log_periodic};
+use model::types::AntennaType;
 
 const P1: f32 = 3.1415927;
 
@@ -82,17 +83,17 @@ fn screen(p: [f32; 20]) -> f32
     fdx1 * fdx2 * fr
 }
 
-fn array_constants(iant: u32, p: [f32; 20]) -> Constants
-    ensures { result ≡ constants_with p (array_own iant p) }
+fn array_constants(kind: AntennaType, p: [f32; 20]) -> Constants
+    ensures { result ≡ constants_with p (array_own (type_number kind) p) }
 {
     let k = dipole_constants(p);
-    match iant {
-        1 => Constants {
+    match kind {
+        AntennaType::Multiband => Constants {
             p11s: 8.0 * k.p11 * p[10],
             fr1: screen(p),
             ..k
         },
-        2 | 3 => Constants { q2: p[10], ..k },
+        AntennaType::CentreFed | AntennaType::EndFed => Constants { q2: p[10], ..k },
         _ => k,
     }
 }
@@ -139,17 +140,18 @@ fn crossed_constants(p: [f32; 20]) -> Constants
 }
 
 // The boom is `logparm`'s, for types 5 and 6. Inner step: of set-up.
-pub fn constants_of(iant: u32, p: [f32; 20], b: Boom) -> Constants
-    ensures { result ≡ constants_of iant p b }
+pub fn constants_of(kind: AntennaType, p: [f32; 20], b: Boom) -> Constants
+    ensures { result ≡ constants_of (type_number kind) p b }
 {
-    if array_type(iant) {
-        return array_constants(iant, p);
+    match kind {
+        AntennaType::Multiband
+        | AntennaType::CentreFed
+        | AntennaType::EndFed
+        | AntennaType::Tropical => array_constants(kind, p),
+        AntennaType::HorizontalLogPeriodic | AntennaType::VerticalLogPeriodic => boom_constants(
+            p, b,
+        ),
+        AntennaType::Rhombic => rhombic_constants(p),
+        AntennaType::Quadrant | AntennaType::CrossedDipoles => crossed_constants(p),
     }
-    if log_periodic(iant) {
-        return boom_constants(p, b);
-    }
-    if iant == 7 {
-        return rhombic_constants(p);
-    }
-    crossed_constants(p)
 }

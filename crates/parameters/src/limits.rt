@@ -1,7 +1,9 @@
 // The limits of set-up's parameters, and the refusals that need no search.
-ghost use Rattle.std.specs.Prelude.{◌≡◌, ◌&&◌, leb};
+ghost use Rattle.std.specs.Prelude.{◌≡◌, ◌&&◌, leb, IfOk};
 ghost use Rattle.std.specs.Float.Ieee.{to_unsigned};
 ghost use Rattle.answers.specs.Outcome.{number_of};
+ghost use Rattle.model.specs.Limits.{slot};
+ghost use Rattle.model.specs.Types.{jant_of, type_number};
 ghost use Rattle.parameters.specs.Limits.{design_ok, band_ok, slots_ok, start_of, start_ok, slew_ok, aim_ok, refusal_of};
 
 use answers::Refusal;
@@ -9,30 +11,33 @@ use floats::range::{all_finite, is_between};
 use model::counts::count_ok;
 use model::limits::in_band;
 use model::table::SIZE;
-use model::types::{array_type, log_periodic, type_ok};
+use model::types::{AntennaType, jant};
 use numeric::float::to_usize;
 use search::record::Peak;
 
 // Design MHz, where the type has one.
-#[tactic(auto, unfolding(crate::specs::Limits::design_ok))]
-fn design_ok(iant: u32, p: [f32; 20]) -> bool
-    ensures { result ≡ design_ok iant p }
+#[tactic(auto, unfolding(crate::specs::Limits::design_ok, model::specs::Types::array_type, model::specs::Types::log_periodic))]
+fn design_ok(kind: AntennaType, p: [f32; 20]) -> bool
+    ensures { result ≡ design_ok (type_number kind) p }
 {
-    if array_type(iant) {
-        return in_band(p[7]);
+    match kind {
+        AntennaType::Multiband
+        | AntennaType::CentreFed
+        | AntennaType::EndFed
+        | AntennaType::Tropical => in_band(p[7]),
+        AntennaType::Quadrant | AntennaType::CrossedDipoles => in_band(p[5]),
+        AntennaType::HorizontalLogPeriodic
+        | AntennaType::VerticalLogPeriodic
+        | AntennaType::Rhombic => true,
     }
-    if 8 <= iant {
-        return in_band(p[5]);
-    }
-    true
 }
 
 // Operating and design MHz.
 #[tactic(auto, unfolding(crate::specs::Limits::band_ok))]
-fn band_ok(iant: u32, p: [f32; 20]) -> bool
-    ensures { result ≡ band_ok iant p }
+fn band_ok(kind: AntennaType, p: [f32; 20]) -> bool
+    ensures { result ≡ band_ok (type_number kind) p }
 {
-    in_band(p[4]) & design_ok(iant, p)
+    in_band(p[4]) & design_ok(kind, p)
 }
 
 // Log-periodic elements, by a float that truncates to 2..30. Inner step: of the slots that break this too.
@@ -44,41 +49,44 @@ pub fn elements_ok(x: f32) -> bool
 }
 
 // Dipoles, or log-periodic elements.
-#[tactic(auto, unfolding(crate::specs::Limits::slots_ok))]
-fn slots_ok(iant: u32, p: [f32; 20]) -> bool
-    ensures { result ≡ slots_ok iant p }
+#[tactic(auto, unfolding(crate::specs::Limits::slots_ok, model::specs::Types::array_type, model::specs::Types::log_periodic))]
+fn slots_ok(kind: AntennaType, p: [f32; 20]) -> bool
+    ensures { result ≡ slots_ok (type_number kind) p }
 {
-    if log_periodic(iant) {
-        return elements_ok(p[5]);
+    match kind {
+        AntennaType::HorizontalLogPeriodic | AntennaType::VerticalLogPeriodic => elements_ok(p[5]),
+        AntennaType::Multiband
+        | AntennaType::CentreFed
+        | AntennaType::EndFed
+        | AntennaType::Tropical => count_ok(p[5]) & count_ok(p[6]),
+        AntennaType::Rhombic | AntennaType::Quadrant | AntennaType::CrossedDipoles => true,
     }
-    if array_type(iant) {
-        return count_ok(p[5]) & count_ok(p[6]);
-    }
-    true
 }
 
 // The search's start values; only type 1 sets z6. Inner step: of set-up.
 #[tactic(auto, unfolding(crate::specs::Limits::start_of))]
-pub fn start_of(iant: u32, p: [f32; 20]) -> Peak
-    ensures { result ≡ start_of iant p }
+pub fn start_of(kind: AntennaType, p: [f32; 20]) -> Peak
+    ensures { result ≡ start_of (type_number kind) p }
 {
-    match iant {
-        1 => Peak {
+    match kind {
+        AntennaType::Multiband => Peak {
             z6: p[16],
             umax: p[13],
             vmax: p[14],
         },
-        2 | 3 => Peak {
+        AntennaType::CentreFed | AntennaType::EndFed => Peak {
             z6: 0.0,
             umax: p[11],
             vmax: p[12],
         },
-        4 | 8.. => Peak {
+        AntennaType::Tropical | AntennaType::Quadrant | AntennaType::CrossedDipoles => Peak {
             z6: 0.0,
             umax: p[10],
             vmax: p[11],
         },
-        _ => Peak {
+        AntennaType::HorizontalLogPeriodic
+        | AntennaType::VerticalLogPeriodic
+        | AntennaType::Rhombic => Peak {
             z6: 0.0,
             umax: 0.0,
             vmax: 0.0,
@@ -93,11 +101,11 @@ fn start_ok(s: Peak) -> bool
     is_between(s.umax, 0.0, 90.0) & is_between(s.vmax, 0.0, 360.0)
 }
 
-#[tactic(auto, unfolding(crate::specs::Limits::slew_ok))]
-fn slew_ok(iant: u32, p: [f32; 20]) -> bool
-    ensures { result ≡ slew_ok iant p }
+#[tactic(auto, unfolding(crate::specs::Limits::slew_ok, model::specs::Types::array_type, model::specs::Types::log_periodic))]
+fn slew_ok(kind: AntennaType, p: [f32; 20]) -> bool
+    ensures { result ≡ slew_ok (type_number kind) p }
 {
-    if array_type(iant) {
+    if kind.is_array() {
         return is_between(p[9], -90.0, 90.0);
     }
     true
@@ -105,34 +113,34 @@ fn slew_ok(iant: u32, p: [f32; 20]) -> bool
 
 // Start direction and slew.
 #[tactic(auto, unfolding(crate::specs::Limits::aim_ok))]
-fn aim_ok(iant: u32, p: [f32; 20]) -> bool
-    ensures { result ≡ aim_ok iant p }
+fn aim_ok(kind: AntennaType, p: [f32; 20]) -> bool
+    ensures { result ≡ aim_ok (type_number kind) p }
 {
-    start_ok(start_of(iant, p)) & slew_ok(iant, p)
+    start_ok(start_of(kind, p)) & slew_ok(kind, p)
 }
 
-// The first refusal that needs no search, with n floats lent for the table. Inner step: of set-up.
+// The type of what no limit is broken by, or the first refusal that needs no search, with n floats lent
+// for the table. Inner step: of set-up.
 #[tactic(auto, unfolding(crate::specs::Limits::refusal_of))]
-pub fn check(iant: u32, p: [f32; 20], n: usize) -> Result<(), Refusal>
-    ensures { number_of result ≡ refusal_of iant p n }
+pub fn check(p: [f32; 20], n: usize) -> Result<AntennaType, Refusal>
+    ensures refusal { number_of result ≡ refusal_of (jant_of (slot p 1)) p n }
+    ensures kind { IfOk result (λ kind. type_number kind ≡ jant_of (slot p 1)) }
 {
     if !all_finite(&p) {
         return Err(Refusal::Value);
     }
-    if !type_ok(iant) {
-        return Err(Refusal::Type);
-    }
-    if !band_ok(iant, p) {
+    let kind = AntennaType::try_from(jant(p[1]))?;
+    if !band_ok(kind, p) {
         return Err(Refusal::Band);
     }
-    if !slots_ok(iant, p) {
+    if !slots_ok(kind, p) {
         return Err(Refusal::Count);
     }
-    if !aim_ok(iant, p) {
+    if !aim_ok(kind, p) {
         return Err(Refusal::Aim);
     }
     if n < SIZE {
         return Err(Refusal::Space);
     }
-    Ok(())
+    Ok(kind)
 }

@@ -14,6 +14,7 @@ use lib.ListN.{get_or}
 use lib.Ieee.{Float, nan, inf, fin, binary32, up, neg, sub, rem, lt, le, of_int, to_signed, fits, of_bits}
 use lib.Ieee.Fits.{add-fits}
 use lib.Ieee.Scale.{finite}
+use Rattle.std.specs.Float.{float_with_sign}
 use Rattle.numeric.specs.Float.{mag}
 use Rattle.root.specs.Root.{sqrt_of}
 use Rattle.numeric.proofs.Laws.{neg-neg}
@@ -87,7 +88,7 @@ from_behind a b iu = rw (at_90, at_270)
 -- ---- the gain
 
 mag_not_below : (x : Float) → lt (mag x) +0 ≡ false
-unfolding lt of_bits
+unfolding lt of_bits float_with_sign
 mag_not_below nan = refl
 mag_not_below (inf s) = refl
 mag_not_below (fin s m e) = rw zero-mul (le-ltb (m * up e * 1) 0 (omega arith))

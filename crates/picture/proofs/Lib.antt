@@ -1,3 +1,2 @@
 -- Public is what readers look for.
 pub mod Laws
-mod Within

@@ -1,5 +1,5 @@
 -- Issue 27: "the plate as a picture", as SVG text on a square of 8,000; "a silence as an empty plate with the word, a refusal as its sentence". Definitions only.
-use Rattle.std.specs.Prelude.{ℕ, ◌≤◌, ◌<◌, ◌≡◌, Bool, cond, List, [], ◌++◌, ltb, get_or}
+use Rattle.std.specs.Prelude.{ℕ, Bool, cond, Option, List, [], ◌++◌, ltb, get_or}
 use Rattle.answers.specs.declared.Kind.{Kind}
 use Rattle.answers.specs.declared.Kind.TheVariants as kind
 use Rattle.quoted.specs.Quoted.{quoted}
@@ -12,6 +12,7 @@ use Rattle.curve.specs.Curve.{curve_text, has_floor}
 use Rattle.rings.specs.Rings.{within, scale_text, labels_text}
 use Rattle.captions.specs.Words.{winds_text, head_text, dot_text, foot_text, shown_where, fold_text, dashed_text, all_floor_text, silence_text, mast_of, sentence_of}
 use Rattle.captions.specs.declared.Heading.{Heading}
+use Rattle.captions.specs.declared.Mast.{Mast}
 
 -- a white square of 8,000, shown 800 wide and high
 unfoldable pub open_text : List ℕ
@@ -66,7 +67,7 @@ picture_in room numbers kinds fold h =
     cond (ltb room 65536) [] (cond (ltb 200000 (peak_of numbers)) [] (picture_of numbers kinds fold h))
 
 -- a refusal's, of one of two masts where there are two
-unfoldable pub refusal_of : ℕ → ℕ → List ℕ
+unfoldable pub refusal_of : Option Mast → ℕ → List ℕ
 refusal_of mast number =
     open_text
     ++ quoted "<text x='4000' y='3700' font-size='600' text-anchor='middle'>"
@@ -76,13 +77,5 @@ refusal_of mast number =
     ++ sentence_of number
     ++ quoted "</text>\n</svg>\n"
 
-unfoldable pub refusal_in : ℕ → ℕ → ℕ → List ℕ
+unfoldable pub refusal_in : ℕ → Option Mast → ℕ → List ℕ
 refusal_in room mast number = cond (ltb room 65536) [] (refusal_of mast number)
-
--- ---- what the code's inner steps ask: the row's peak, at most 1,000 dBi
-
-pub record AtPeak (numbers : List ℕ) (azimuth peak : ℕ) : Type 0 where
-  pub place : azimuth ≡ peak_azimuth numbers
-  pub number : peak ≡ peak_of numbers
-  pub whole_turn : azimuth < 360
-  pub spanned : peak ≤ 200000

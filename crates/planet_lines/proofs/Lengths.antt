@@ -17,7 +17,7 @@ use Rattle.numerals.specs.Numeral.{numeral}
 use Rattle.numerals.proofs.Laws.{numeral-length}
 use Rattle.hundredths.specs.Decimals.{two_decimals}
 use Rattle.hundredths.specs.Raised.{raised_of, lowered}
-use Rattle.hundredths.proofs.Raised.{lowered-below, lowered-from}
+use Rattle.hundredths.proofs.Raised.{lowered_below, lowered_from}
 use Rattle.hundredths.proofs.Text.{numeral-short, loss_length, two-decimals-length}
 use Rattle.planet_lines.specs.Losses.{all_in_span, loss_at, top}
 use Rattle.planet_lines.specs.Text.{whole_line, gain_line, loss_line, lines_to, part_text, mhz_of, header_text, text_of}
@@ -39,8 +39,8 @@ lowered-size : (r : ℕ) → r ≤ 200000 → nat_abs (lowered r) ≤ 200000
 lowered-size r h = go (ltb r 100000) refl
   where
     go : (b : Bool) → ltb r 100000 ≡ b → nat_abs (lowered r) ≤ 200000
-    go true e = rw (lowered-below r (ltb-true r 100000 e)) (omega arith)
-    go false e = rw (lowered-from r (ltb-false r 100000 e)) (omega arith)
+    go true e = rw (lowered_below r (ltb-true r 100000 e)) (omega arith)
+    go false e = rw (lowered_from r (ltb-false r 100000 e)) (omega arith)
 
 pub lowered-length : (r : ℕ) → r ≤ 200000 → length (two_decimals (lowered r)) ≤ 8
 lowered-length r h = two-decimals-length (lowered r) (lowered-size r h)

@@ -1,6 +1,6 @@
 // The lines of the text, one after the other.
-ghost use Rattle.std.specs.Prelude.{◌≡◌, true, ◌+◌, ◌≤◌, ◌<◌, pos, length, take};
-ghost use Rattle.words.specs.Writing.{Wrote};
+ghost use Rattle.std.specs.Prelude.{◌≡◌, true, ◌+◌, ◌≤◌, ◌<◌, pos, length};
+ghost use Rattle.words.specs.Writing.{Put};
 ghost use Rattle.hundredths.specs.Raised.{lowered};
 ghost use Rattle.planet_lines.specs.Losses.{all_in_span, loss_at};
 ghost use Rattle.planet_lines.specs.Text.{whole_line, gain_line, loss_line, lines_to, part_text, header_text, text_of};
@@ -10,86 +10,89 @@ use floats::rounding::natural;
 use hundredths::decimals::{push_hundredths, push_raised};
 use model::types::jant;
 use numerals::push_numeral;
-use words::bytes::{push, push_bytes};
+use words::page::Page;
 
 // A line of a word and a whole number.
-fn push_whole(out: &mut [u8], at: usize, word: &[u8], n: u32) -> usize
-    requires { at + length word.now + 11 ≤ length out.old }
-    ensures { Wrote out.old at (whole_line word.now n) out.new result }
+#[tactic(auto, unfolding(crate::specs::Text::whole_line))]
+fn push_whole<const N: usize>(page: &mut Page<N>, word: &[u8], n: u32)
+    requires { length page.old + (length word.now + 11) ≤ N }
+    ensures { Put (length word.now + 11) page.old (whole_line word.now n) page.new }
 {
-    let number_at = push_bytes(out, at, word);
-    let end = push_numeral(out, number_at, n);
-    push(out, end, b'\n')
+    page.push_bytes(word);
+    push_numeral(page, n);
+    page.push(b'\n');
 }
 
 // The line of the greatest gain, from raised hundredths.
-fn push_gain_line(out: &mut [u8], at: usize, raised: u32) -> usize
-    requires { (at + 18 ≤ length out.old) × (raised ≤ 200000) }
-    ensures { Wrote out.old at (gain_line (lowered raised)) out.new result }
+fn push_gain_line<const N: usize>(page: &mut Page<N>, raised: u32)
+    requires { (length page.old + 18 ≤ N) × (raised ≤ 200000) }
+    ensures { Put 18 page.old (gain_line (lowered raised)) page.new }
 {
-    let number_at = push_bytes(out, at, b"GAIN ");
-    let unit_at = push_raised(out, number_at, raised);
-    let end = push_bytes(out, unit_at, b" dBi");
-    push(out, end, b'\n')
+    page.push_bytes(b"GAIN ");
+    push_raised(page, raised);
+    page.push_bytes(b" dBi");
+    page.push(b'\n');
 }
 
 // The line of a loss in hundredths.
-fn push_loss(out: &mut [u8], at: usize, angle: u32, loss: u32) -> usize
-    requires { (at + 15 ≤ length out.old) × (angle < 1000) × (loss ≤ 200000) }
-    ensures { Wrote out.old at (loss_line angle (pos loss)) out.new result }
+fn push_loss<const N: usize>(page: &mut Page<N>, angle: u32, loss: u32)
+    requires { (length page.old + 15 ≤ N) × (angle < 1000) × (loss ≤ 200000) }
+    ensures { Put 12 page.old (loss_line angle (pos loss)) page.new }
 {
-    let space_at = push_numeral(out, at, angle);
-    let loss_at = push(out, space_at, b' ');
-    let end = push_hundredths(out, loss_at, loss);
-    push(out, end, b'\n')
+    push_numeral(page, angle);
+    page.push(b' ');
+    push_hundredths(page, loss);
+    page.push(b'\n');
 }
 
 impl Part<'_> {
     // Its 360 lines.
-    fn push_losses(self, out: &mut [u8], at: usize) -> usize
-        requires { at + 4335 ≤ length out.old }
-        ensures { Wrote out.old at (lines_to (loss_at self.entry.numbers.now) 360) out.new result }
+    fn push_losses<const N: usize>(self, page: &mut Page<N>)
+        requires { length page.old + 4335 ≤ N }
+        ensures { Put 4320 page.old (lines_to (loss_at self.entry.numbers.now) 360) page.new }
     {
-        let mut end = at;
         for angle in 0..360 {
-            let loss = self.loss_at(angle as usize);
-            end = push_loss(out, end, angle, loss);
+            push_loss(page, angle, self.loss_at(angle as usize));
         }
-        end
     }
 
     // The part, by its word.
-    fn push(self, out: &mut [u8], at: usize, word: &[u8]) -> usize
-        requires { at + length word.now + 4346 ≤ length out.old }
-        ensures { Wrote out.old at (part_text word.now self.entry.numbers.now) out.new result }
+    #[tactic(auto, unfolding(crate::specs::Text::part_text))]
+    fn push<const N: usize>(self, page: &mut Page<N>, word: &[u8])
+        requires { length page.old + (length word.now + 4346) ≤ N }
+        ensures { Put (length word.now + 4331) page.old (part_text word.now self.entry.numbers.now) page.new }
     {
-        let lines_at = push_whole(out, at, word, 360);
-        self.push_losses(out, lines_at)
+        push_whole(page, word, 360);
+        self.push_losses(page);
     }
 }
 
 // The lines before the parts, with the greatest raised hundredths of the horizontal part.
-fn push_header(out: &mut [u8], parm: [f32; 20], greatest: u32) -> usize
-    requires { (8960 ≤ length out.old) × (greatest ≤ 200000) }
-    ensures { Wrote out.old 0 (header_text parm (lowered greatest)) out.new result }
+#[tactic(auto, unfolding(crate::specs::Text::header_text, crate::specs::Text::mhz_of, quoted::specs::Quoted::quoted))]
+fn push_header<const N: usize>(page: &mut Page<N>, parm: [f32; 20], greatest: u32)
+    requires { (length page.old + 56 ≤ N) × (greatest ≤ 200000) }
+    ensures { Put 56 page.old (header_text parm (lowered greatest)) page.new }
 {
-    let mhz_at = push_whole(out, 0, b"NAME T", jant(parm[1]));
-    let gain_at = push_whole(out, mhz_at, b"FREQUENCY ", natural(parm[4]));
-    push_gain_line(out, gain_at, greatest)
+    push_whole(page, b"NAME T", jant(parm[1]));
+    push_whole(page, b"FREQUENCY ", natural(parm[4]));
+    push_gain_line(page, greatest);
 }
 
 // The whole text.
-// Inner step: a buffer of 8,960 bytes, and parts that have numbers, all in span.
-pub fn push_text(out: &mut [u8], parm: [f32; 20], horizontal: &[f32], vertical: &[f32]) -> usize
-    requires in_bounds { 8960 ≤ length out.old }
+// Inner step: parts that have numbers, all in span.
+pub fn push_text<const N: usize>(
+    page: &mut Page<N>,
+    parm: [f32; 20],
+    horizontal: &[f32],
+    vertical: &[f32],
+)
+    requires in_bounds { length page.old + 8960 ≤ N }
     requires horizontal_nonzero { (0 < length horizontal.now) × (all_in_span horizontal.now ≡ true) }
     requires vertical_nonzero { (0 < length vertical.now) × (all_in_span vertical.now ≡ true) }
-    ensures text { Wrote out.old 0 (text_of parm horizontal.now vertical.now) out.new result }
-    // what a caller needs to lend the text on, as `&out[..r]`
-    ensures within { (result ≤ length out.new) × (result ≡ length (take result out.new)) }
+    ensures { Put 8738 page.old (text_of parm horizontal.now vertical.now) page.new }
 {
     let around = Part::new(horizontal);
-    let horizontal_at = push_header(out, parm, around.greatest);
-    let vertical_at = around.push(out, horizontal_at, b"HORIZONTAL ");
-    Part::new(vertical).push(out, vertical_at, b"VERTICAL ")
+    push_header(page, parm, around.greatest);
+    around.push(page, b"HORIZONTAL ");
+    Part::new(vertical).push(page, b"VERTICAL ");
 }

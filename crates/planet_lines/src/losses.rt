@@ -35,9 +35,11 @@ pub(crate) struct Part<'a> {
 }
 
 impl Part<'_> {
+    #[tactic(auto, using(crate::proofs::Greatest::top_le))]
     pub(crate) fn new(numbers: &[f32]) -> Part
         requires { all_in_span numbers.now ≡ true }
-        ensures { result.numbers.now ≡ numbers.now }
+        ensures same { result.numbers.now ≡ numbers.now }
+        ensures upper_bound { result.greatest ≤ 200000 }
     {
         Part {
             numbers,

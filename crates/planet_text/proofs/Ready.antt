@@ -56,3 +56,7 @@ module _ (input : List ℕ) {q : Request} (h : request_of input table_size ≡ a
       let ok : type_ok (model_of iant q.parm).iant ≡ true = rw (accepted_model q.parm (length blank_table) left) at (accepted-type q.parm blank_table left) in
       let two = both (leb 1 iant) (leb iant 9) ok in
       (leb-true 1 iant two.0, leb-true iant 9 two.1)
+
+-- with a blank table lent
+pub own_of_request : (input : List ℕ) {q : Request} → request_of input (length blank_table) ≡ accepted q → own_table q.antenna (table_after input blank_table) ≡ true
+own_of_request input h = ready_own input (rw blank-length at h)

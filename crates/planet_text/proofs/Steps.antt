@@ -1,86 +1,33 @@
--- What each answer of a step makes of the text. Assumes nothing.
-use Prim.Native.Nat.{ℕ, ◌≤◌, ◌<◌}
-use mathlib.Core.Path.{◌≡◌, ap, ◌∙◌}
-use mathlib.Core.Bool.{true, false, ◌&&◌}
+-- The text by what the code's steps answer. Assumes nothing.
+use Prim.Native.Nat.{ℕ}
+use mathlib.Core.Path.{◌≡◌, refl}
 use mathlib.Core.List.{List}
-use native.Mathlib.Omega.{arith}
 use lib.ListN.{length}
 use lib.Ieee.{Float}
-use borrow.Author.Tests.{lt-ltb, le-ltb}
-use Rattle.std.specs.Prelude.{Ok, Err}
-use Rattle.answers.specs.declared.Refusal.{Refusal}
-use Rattle.answers.specs.declared.Refusal.TheVariants as refusals
-use Rattle.answers.specs.Outcome.{Outcome, refused, accepted, number}
-use Rattle.answers.specs.Refusals.{SPAN}
-use Rattle.words.specs.Writing.{Wrote}
-use Rattle.model.specs.Table.{table_size, blank_table}
-use Rattle.request.specs.declared.Request.{Request}
-use Rattle.plate_row.specs.Row.{row_of}
-use Rattle.request.specs.Request.{and_then, request_of, table_after}
-use Rattle.plate_text.proofs.Asked.{RowThere}
-use Rattle.planet_vertical.specs.Directions.{vertical_gain, numbers_to}
-use Rattle.planet_lines.specs.Losses.{all_in_span}
-use Rattle.planet_lines.specs.Text.{text_of}
-use Rattle.planet_text.specs.Planet.{spanned, vertical_text, pattern_text, planet_text, in_room, length_of, lent_after, Delivered}
+use Rattle.answers.specs.Outcome.{Outcome, refused, accepted}
+use Rattle.model.specs.Table.{blank_table}
+use Rattle.model.proofs.BlankTable.{blank-length}
+use Rattle.plate_row.specs.Row.{row_of, numbers_of}
+use Rattle.plate_text.specs.Plate.{row_numbers}
+use Rattle.planet_vertical.specs.Directions.{horizontal_gain, numbers_to}
 use Rattle.planet_vertical.proofs.Numbers.{row-numbers}
-use Rattle.request.proofs.Then.{then_refused, then_accepted}
+use Rattle.planet_text.specs.Planet.{vertical_text, pattern_text, planet_text}
+use Rattle.request.specs.declared.Request.{Request}
+use Rattle.request.specs.Request.{and_then, request_of, table_after}
+use Rattle.request.proofs.Then.{then_accepted}
 
--- ---- what is delivered of a text
+-- the plate row's numbers, then the vertical ones
+pub text_of_row : (q : Request) (t : List Float) → pattern_text q t ≡ and_then (row_numbers q t) (vertical_text q t)
+unfolding pattern_text row_numbers and_then
+text_of_row q t = go (row_of q.antenna t q.elevation q.giso 360) refl
+  where
+    go : (o : Outcome Float) → row_of q.antenna t q.elevation q.giso 360 ≡ o
+        → and_then o (λ (x : Float). and_then (numbers_to (horizontal_gain q t) 360) (vertical_text q t)) ≡ and_then (and_then o λ (x : Float). accepted (numbers_of q.antenna t q.elevation q.giso)) (vertical_text q t)
+    go (refused n) e = refl
+    go (accepted x) e = then_accepted _ _ _ (row-numbers q t e)
 
-module _ (text : Outcome (List ℕ)) (before : List ℕ) where
-  pub delivered_refusal : (r : Refusal) → text ≡ refused (number r) → Delivered text before (Err r) before
-  unfolding in_room length_of lent_after and_then
-  delivered_refusal r e = record { answered = rw e; lent = rw e }
-
-  module _ (s : List ℕ) (e : text ≡ accepted s) where
-    pub no_room : length before < length s → Delivered text before (Err refusals.Space) before
-    unfolding in_room length_of lent_after and_then
-    no_room h = record { answered = rw (e, lt-ltb (length before) (length s) h); lent = rw (e, lt-ltb (length before) (length s) h) }
-
-    pub delivered_text : (n : ℕ) (after : List ℕ) → Wrote before 0 s after n → length s ≤ length before → Delivered text before (Ok n) after
-    unfolding in_room length_of lent_after and_then
-    delivered_text n after w h =
-        let l : n ≡ length s = omega (arith, w.after) in
-        record { answered = rw (e, le-ltb (length before) (length s) h, l); lent = w.bytes ∙ (rw (e, le-ltb (length before) (length s) h)) }
-
--- ---- the span
-
-module _ (parm horizontal vertical : List Float) where
-  pub out_of_span : (all_in_span horizontal && all_in_span vertical) ≡ false → spanned parm horizontal vertical ≡ refused SPAN
-  unfolding spanned
-  out_of_span h = rw h
-
-  pub in_span_text : (all_in_span horizontal && all_in_span vertical) ≡ true → spanned parm horizontal vertical ≡ accepted (text_of parm horizontal vertical)
-  unfolding spanned
-  in_span_text h = rw h
-
--- ---- the two parts' numbers
-
-module _ (q : Request) (t : List Float) where
-  pub no_row : (n : ℕ) → row_of q.antenna t q.elevation q.giso 360 ≡ refused n → pattern_text q t ≡ refused n
-  unfolding pattern_text
-  no_row n e = then_refused _ _ n e
-
-  module _ (horizontal : List Float) (row : RowThere q t horizontal) where
-    filled : pattern_text q t ≡ vertical_text q t horizontal
-    unfolding pattern_text
-    filled = then_accepted _ _ row.front_to_back row.accepts ∙ then_accepted _ _ _ (row-numbers q t row.accepts) ∙ ap (vertical_text q t) row.own
-
-    pub no_vertical : (n : ℕ) → numbers_to (vertical_gain q t) 181 ≡ refused n → pattern_text q t ≡ refused n
-    unfolding vertical_text
-    no_vertical n e = filled ∙ then_refused _ _ n e
-
-    pub both_parts : (vertical : List Float) → numbers_to (vertical_gain q t) 181 ≡ accepted vertical → pattern_text q t ≡ spanned q.parm horizontal vertical
-    unfolding vertical_text
-    both_parts vertical e = filled ∙ then_accepted _ _ vertical e
-
--- ---- the steps before them
-
-module _ (input : List ℕ) where
-  pub no_request : (n : ℕ) → request_of input table_size ≡ refused n → planet_text input ≡ refused n
-  unfolding planet_text
-  no_request n e = then_refused _ _ n e
-
-  pub of_request : (q : Request) → request_of input table_size ≡ accepted q → planet_text input ≡ pattern_text q (table_after input blank_table)
-  unfolding planet_text
-  of_request q e = then_accepted _ _ q e
+-- with a blank table lent
+pub text_of_request : (input : List ℕ)
+    → planet_text input ≡ and_then (request_of input (length blank_table)) λ (q : Request). pattern_text q (table_after input blank_table)
+unfolding planet_text
+text_of_request input = rw blank-length refl

@@ -19,9 +19,10 @@ use planet_lines::losses::all_in_span;
 use planet_vertical::vertical::read_vertical;
 use plate_text::row::asked_row;
 use request::{Request, prepare};
-use words::bytes::push_bytes;
+use words::page::{Page, put_page};
 
 // The text of both parts' numbers, if they are in span and there is room for it: its length.
+#[tactic(auto, using(floats::proofs::Tests::both), unfolding(crate::specs::Planet::spanned, crate::specs::Planet::in_room, crate::specs::Planet::length_of, crate::specs::Planet::lent_after, request::specs::Request::and_then))]
 fn write_text(
     parm: [f32; 20],
     horizontal: &[f32; 360],
@@ -34,16 +35,16 @@ fn write_text(
     if !spans {
         return Err(Refusal::Span);
     }
-    let mut all = [0u8; 8960];
-    let n = push_text(&mut all, parm, horizontal, vertical);
-    if text.len() < n {
+    let mut page: Page<8960> = Page::new();
+    push_text(&mut page, parm, horizontal, vertical);
+    if text.len() < page.text().len() {
         return Err(Refusal::Space);
     }
-    push_bytes(text, 0, &all[..n]);
-    Ok(n)
+    Ok(put_page(&page, text))
 }
 
 // The plate row and the vertical numbers, then the text.
+#[tactic(auto, using(crate::proofs::Steps::text_of_row, request::proofs::Then::then_refused, request::proofs::Then::then_accepted), unfolding(crate::specs::Planet::vertical_text, crate::specs::Planet::in_room, crate::specs::Planet::length_of, crate::specs::Planet::lent_after, request::specs::Request::and_then))]
 fn write_patterns(q: Request, table: &[f32], text: &mut [u8]) -> Result<usize, Refusal>
     requires { own_table q.antenna table.now ≡ true }
     ensures { Delivered (pattern_text q table.now) text.old result text.new }
@@ -54,6 +55,7 @@ fn write_patterns(q: Request, table: &[f32], text: &mut [u8]) -> Result<usize, R
 }
 
 // Writes the Planet text of this input over the first bytes of `text`, and answers its length.
+#[tactic(auto, using(crate::proofs::Steps::text_of_request, crate::proofs::Ready::own_of_request, request::proofs::Then::then_refused, request::proofs::Then::then_accepted), unfolding(crate::specs::Planet::in_room, crate::specs::Planet::length_of, crate::specs::Planet::lent_after, request::specs::Request::and_then))]
 pub fn planet(input: &[u8], text: &mut [u8]) -> Result<usize, Refusal>
     ensures answer { outcome result ≡ planet_of input.now (length text.old) }
     ensures text { text.new ≡ text_after input.now text.old }

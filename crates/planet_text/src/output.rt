@@ -5,6 +5,7 @@ ghost use Rattle.planet_text.specs.Planet.{output_in};
 
 use crate::planet;
 use text::lines::push_refusal;
+use words::page::{Page, put_page};
 
 // Writes the program's output for this input from the buffer's start on, and returns its length; a
 // buffer of under 8,960 bytes gets nothing.
@@ -17,7 +18,11 @@ pub fn planet_output(input: &[u8], text: &mut [u8]) -> usize
         return 0;
     }
     match planet(input, text) {
-        Err(r) => push_refusal(text, 0, r),
+        Err(r) => {
+            let mut page: Page<12> = Page::new();
+            push_refusal(&mut page, r);
+            put_page(&page, text)
+        }
         Ok(n) => n,
     }
 }

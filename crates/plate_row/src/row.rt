@@ -3,8 +3,6 @@ ghost use Rattle.std.specs.Prelude.{◌≡◌, ℕ, ◌≤◌, true, length, Flo
 ghost use Rattle.answers.specs.Outcome.{outcome};
 ghost use Rattle.floats.specs.Ops.{+0};
 ghost use Rattle.floats.specs.Filled.{filled_to};
-ghost use Rattle.model.specs.Counts.{counts_ok};
-ghost use Rattle.model.specs.Table.{table_size};
 ghost use Rattle.plate_row.specs.Folded.{Mirrored};
 ghost use Rattle.plate_row.specs.Row.{elevation_ok, row_to, row_asked, row_of, row_after};
 
@@ -15,7 +13,7 @@ use antenna::gain::decibels;
 use antenna::record::Antenna;
 use antenna::sum::has_sum;
 use floats::range::{all_finite, is_between};
-use model::record::Model;
+use model::checked::Checked;
 use numeric::bits::bits_of;
 use numeric::float::is_finite;
 use parameters::whole::truncated;
@@ -24,7 +22,7 @@ use pattern::passes::around;
 
 // A whole elevation from 0 to 90.
 #[tactic(auto, unfolding(crate::specs::Row::elevation_ok))]
-fn elevation_ok(u: f32) -> bool
+pub fn elevation_ok(u: f32) -> bool
     ensures { result ≡ elevation_ok u }
 {
     let whole = truncated(u);
@@ -45,24 +43,32 @@ fn row_asked(own: bool, u: f32, giso: f32, n: usize) -> Asked
     }
 }
 
+// Whether x is +0, by its bits.
+fn is_plus_zero(x: f32) -> bool
+    ensures { result ≡ true → x ≡ +0 }
+{
+    bits_of(x) == 0
+}
+
 // Whether the pattern is the same on both sides of the boresight: types 1 to 4 where the sine of
 // the slew is +0, types 5 and 6.
-fn folds(iant: u32, sl: f32) -> bool
-    ensures { result ≡ true → (iant ≤ 6) × (iant ≤ 4 → sl ≡ +0) }
+#[tactic(auto, unfolding(model::specs::Types::array_type, model::specs::Types::log_periodic))]
+fn folds(c: Checked<'_>) -> bool
+    ensures { result ≡ true → (c.entry.model.now.iant ≤ 6) × (c.entry.model.now.iant ≤ 4 → c.entry.model.now.constants.sl ≡ +0) }
 {
-    if iant <= 4 {
-        return bits_of(sl) == 0;
+    if c.kind.is_array() {
+        return is_plus_zero(c.model.constants.sl);
     }
-    iant <= 6
+    c.kind.is_log_periodic()
 }
 
 // The numbers at the first n azimuths, worked out one by one.
 #[tactic(auto, using(pattern::proofs::passes::Entries::around_at), unfolding(floats::specs::Filled::filled_to, antenna::specs::Gain::number_at))]
-fn filled(m: Model, z6: f32, table: &[f32], u: f32, giso: f32, n: u16) -> [f32; 360]
-    requires { (counts_ok m ≡ true) × (table_size ≤ length table.now) × (n ≤ 360) }
-    ensures { result ≡ row_to m z6 table.now u giso n }
+fn filled(c: Checked<'_>, z6: f32, u: f32, giso: f32, n: u16) -> [f32; 360]
+    requires { n ≤ 360 }
+    ensures { result ≡ row_to c.entry.model.now z6 c.entry.table.now u giso n }
 {
-    let gains = around(&m, table, u, n);
+    let gains = around(c, u, n);
     let mut out = [0.0f32; 360];
     for v in 0..n as usize {
         out[v] = decibels(gains[v], z6, giso);
@@ -83,16 +89,15 @@ fn folded(half: [f32; 360], west: f32) -> [f32; 360]
 }
 
 // The numbers at azimuths 0 to 359.
-fn numbers(m: Model, z6: f32, table: &[f32], u: f32, giso: f32) -> [f32; 360]
-    requires { (counts_ok m ≡ true) × (table_size ≤ length table.now) }
-    ensures { result ≡ row_to m z6 table.now u giso 360 }
+fn numbers(c: Checked<'_>, z6: f32, u: f32, giso: f32) -> [f32; 360]
+    ensures { result ≡ row_to c.entry.model.now z6 c.entry.table.now u giso 360 }
 {
-    if folds(m.iant, m.constants.sl) {
-        let half = filled(m, z6, table, u, giso, 181);
-        let west = decibels(gainrel(&m, table, u, 270.0), z6, giso);
+    if folds(c) {
+        let half = filled(c, z6, u, giso, 181);
+        let west = decibels(gainrel(c, u, 270.0), z6, giso);
         return folded(half, west);
     }
-    filled(m, z6, table, u, giso, 360)
+    filled(c, z6, u, giso, 360)
 }
 
 // The row at elevation u, written into the lent floats once all its numbers exist; its answer is
@@ -103,9 +108,8 @@ pub fn row(ant: Antenna, table: &[f32], u: f32, giso: f32, lent: &mut [f32]) -> 
     ensures lent_after { lent.new ≡ row_after ant table.now u giso lent.old }
 {
     let own = has_sum(table, ant.sum);
-    let m = ant.model;
-    check(m, table.len(), row_asked(own, u, giso, lent.len()))?;
-    let all = numbers(m, ant.peak.z6, table, u, giso);
+    let c = check(&ant.model, table, row_asked(own, u, giso, lent.len()))?;
+    let all = numbers(c, ant.peak.z6, u, giso);
     let ratio = front_to_back(all);
     let exist = all_finite(&all) & is_finite(ratio);
     if !exist {

@@ -8,6 +8,7 @@ use plate_row::row::row;
 use request::Request;
 
 // The numbers of the row that is asked for. Inner step: of programs that show a plate.
+#[tactic(auto, unfolding(crate::specs::Plate::row_numbers, request::specs::Request::and_then, plate_row::specs::Row::row_after, plate_row::specs::Row::written_after))]
 pub fn asked_row(q: Request, table: &[f32]) -> Result<[f32; 360], Refusal>
     ensures { outcome result ≡ row_numbers q table.now }
 {

@@ -1,5 +1,4 @@
 -- What the two remarks mean, which others may cite, and what several proofs cite: one file for each subject.
-mod Lengths
 pub mod Limit
 pub mod OffBand
 mod Steps

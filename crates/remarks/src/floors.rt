@@ -13,10 +13,7 @@ use request::Request;
 pub(crate) fn is_floor(answer: Result<Gain, Refusal>) -> bool
     ensures { result ≡ is_floor (outcome_as told answer) }
 {
-    match answer {
-        Ok(g) => matches!(g.kind, Kind::Floor),
-        Err(_) => false,
-    }
+    answer.is_ok_and(|g| g.kind == Kind::Floor)
 }
 
 // Whether all 360 directions are.

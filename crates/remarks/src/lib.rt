@@ -10,67 +10,81 @@ mod floors;
 mod limits;
 mod lines;
 
-ghost use Rattle.std.specs.Prelude.{◌≡◌, ◌≤◌, length, take};
-ghost use Rattle.words.specs.Writing.{Wrote};
+ghost use Rattle.std.specs.Prelude.{◌≡◌, ◌+◌, ◌≤◌, length, take};
+ghost use Rattle.words.specs.Writing.{Put, Wrote};
 ghost use Rattle.request.specs.Request.{station_in};
 ghost use Rattle.plate_text.specs.Plate.{gain_at};
 ghost use Rattle.remarks.specs.Directions.{relative_at};
-ghost use Rattle.remarks.specs.Remarks.{by_ratio, off_band, row_remarks, plate_remarks, remarks_in};
+ghost use Rattle.remarks.specs.Remarks.{by_ratio, off_band, row_remarks, plate_remarks, remarks_of, remarks_in};
 
 use floats::range::is_between;
 use floors::all_floors;
 use limits::limits;
 use lines::{push_band, push_limit};
 use model::table::blank_table;
-use model::types::jant;
+use model::types::{AntennaType, jant};
 use plate_text::row::asked_row;
 use request::{Request, prepare, station_of};
+use words::page::{Page, put_page};
 
 // Whether the station in the first 225 bytes of 237 is of mode 1.
 #[tactic(auto, unfolding(crate::specs::Remarks::by_ratio))]
 fn by_ratio(input: &[u8]) -> bool
     ensures { result ≡ by_ratio (station_in input.now) }
 {
-    match station_of(input) {
-        Ok(s) => s.mode == 1,
-        Err(_) => false,
-    }
+    station_of(input).is_ok_and(|s| s.mode == 1)
 }
 
 // Whether the ratio of operating to design MHz is one that no three gains cover.
-#[tactic(auto, unfolding(crate::specs::Remarks::off_band, interpolation::specs::Interpolation::ratio_ok))]
+#[tactic(auto, using(std::proofs::lemmas::Bool::Decides::nat_tests), unfolding(crate::specs::Remarks::off_band, interpolation::specs::Interpolation::ratio_ok, model::specs::Types::type_ok))]
 fn off_band(parm: [f32; 20]) -> bool
     ensures { result ≡ off_band parm }
 {
     let fr = parm[4] / parm[7];
-    if jant(parm[1]) == 1 {
-        return !is_between(fr, 0.7, 1.4);
+    match AntennaType::try_from(jant(parm[1])) {
+        Ok(AntennaType::Multiband) => !is_between(fr, 0.7, 1.4),
+        _ => !is_between(fr, 0.85, 1.2),
     }
-    !is_between(fr, 0.85, 1.2)
 }
 
 // The remarks on an accepted row.
-fn put_remarks(off: bool, q: Request, table: &[f32], out: &mut [u8]) -> usize
-    requires { 256 ≤ length out.old }
-    ensures { Wrote out.old 0 (row_remarks off (gain_at q table.now) (relative_at q table.now)) out.new result }
+#[tactic(auto, unfolding(crate::specs::Remarks::row_remarks))]
+fn put_remarks<const N: usize>(page: &mut Page<N>, off: bool, q: Request, table: &[f32])
+    requires { length page.old + 256 ≤ N }
+    ensures { Put 256 page.old (row_remarks off (gain_at q table.now) (relative_at q table.now)) page.new }
 {
-    let limit_at = push_band(out, 0, off & all_floors(q, table));
-    push_limit(out, limit_at, limits(q, table))
+    push_band(page, off & all_floors(q, table));
+    push_limit(page, limits(q, table));
 }
 
 // The remarks on the row that is asked for.
-fn put_row(ratio: bool, q: Request, table: &[f32], out: &mut [u8]) -> usize
-    requires { 256 ≤ length out.old }
-    ensures { Wrote out.old 0 (plate_remarks ratio q table.now) out.new result }
+#[tactic(auto, using(crate::proofs::Steps::remarks_of_row, crate::proofs::Steps::remarked_accepted))]
+fn put_row<const N: usize>(page: &mut Page<N>, ratio: bool, q: Request, table: &[f32])
+    requires { length page.old + 256 ≤ N }
+    ensures { Put 256 page.old (plate_remarks ratio q table.now) page.new }
 {
     match asked_row(q, table) {
-        Err(_) => 0,
-        Ok(_) => put_remarks(ratio & off_band(q.parm), q, table, out),
+        Err(_) => {}
+        Ok(_) => put_remarks(page, ratio & off_band(q.parm), q, table),
+    }
+}
+
+// All remarks.
+#[tactic(auto, using(crate::proofs::Steps::remarks_of_request, crate::proofs::Steps::remarked_accepted))]
+fn put_text<const N: usize>(page: &mut Page<N>, input: &[u8])
+    requires { length page.old + 256 ≤ N }
+    ensures { Put 256 page.old (remarks_of input.now) page.new }
+{
+    let mut table = blank_table();
+    match prepare(input, &mut table) {
+        Err(_) => {}
+        Ok(request) => put_row(page, by_ratio(input), request, &table),
     }
 }
 
 // Writes the remarks on the plate of this input from the buffer's start on, and returns their length; a
 // buffer of under 256 bytes gets nothing.
+#[tactic(auto, using(words::proofs::Writing::wrote_none), unfolding(crate::specs::Remarks::remarks_in))]
 pub fn remarks(input: &[u8], out: &mut [u8]) -> usize
     ensures text { Wrote out.old 0 (remarks_in (length out.old) input.now) out.new result }
     // what a caller needs to lend the text on, as `&out[..r]`
@@ -79,9 +93,7 @@ pub fn remarks(input: &[u8], out: &mut [u8]) -> usize
     if out.len() < 256 {
         return 0;
     }
-    let mut table = blank_table();
-    match prepare(input, &mut table) {
-        Err(_) => 0,
-        Ok(request) => put_row(by_ratio(input), request, &table, out),
-    }
+    let mut page: Page<256> = Page::new();
+    put_text(&mut page, input);
+    put_page(&page, out)
 }

@@ -14,10 +14,7 @@ use request::Request;
 fn is_level(answer: Result<Gain, Refusal>) -> bool
     ensures { result ≡ is_level (outcome_as told answer) }
 {
-    match answer {
-        Ok(g) => matches!(g.kind, Kind::Level),
-        Err(_) => false,
-    }
+    answer.is_ok_and(|g| g.kind == Kind::Level)
 }
 
 // How many are: levels that with a maximum gain of 0 are floors.

@@ -1,49 +1,43 @@
 // The sentences, each a line.
 ghost use Rattle.std.specs.Prelude.{◌+◌, ◌≤◌, length};
-ghost use Rattle.words.specs.Writing.{Wrote};
+ghost use Rattle.words.specs.Writing.{Put};
 ghost use Rattle.remarks.specs.Remarks.{band_remark, directions, limit_remark};
 
 use numerals::push_numeral;
-use words::bytes::push_bytes;
+use words::page::Page;
 
 // The remark on a plate off the design band, if it is.
-pub(crate) fn push_band(out: &mut [u8], at: usize, off: bool) -> usize
-    requires { at + 59 ≤ length out.old }
-    ensures { Wrote out.old at (band_remark off) out.new result }
+#[tactic(auto, using(words::proofs::Writing::put_none), unfolding(crate::specs::Remarks::band_remark, quoted::specs::Quoted::quoted))]
+pub(crate) fn push_band<const N: usize>(page: &mut Page<N>, off: bool)
+    requires { length page.old + 59 ≤ N }
+    ensures { Put 59 page.old (band_remark off) page.new }
 {
     if off {
-        return push_bytes(
-            out,
-            at,
-            b"all 360 directions are a floor: MHz is off the design band\n",
-        );
+        page.push_bytes(b"all 360 directions are a floor: MHz is off the design band\n");
     }
-    at
 }
 
-fn push_directions(out: &mut [u8], at: usize, n: u32) -> usize
-    requires { at + 15 ≤ length out.old }
-    ensures { Wrote out.old at (directions n) out.new result }
+#[tactic(auto, using(words::proofs::Writing::at_most), unfolding(crate::specs::Remarks::directions, quoted::specs::Quoted::quoted))]
+fn push_directions<const N: usize>(page: &mut Page<N>, n: u32)
+    requires { length page.old + 15 ≤ N }
+    ensures { Put 15 page.old (directions n) page.new }
 {
     if n == 1 {
-        return push_bytes(out, at, b" direction is");
+        page.push_bytes(b" direction is");
+    } else {
+        page.push_bytes(b" directions are");
     }
-    push_bytes(out, at, b" directions are")
 }
 
 // The remark on n directions at the limit, if there are any.
-pub(crate) fn push_limit(out: &mut [u8], at: usize, n: u32) -> usize
-    requires { at + 99 ≤ length out.old }
-    ensures { Wrote out.old at (limit_remark n) out.new result }
+#[tactic(auto, using(words::proofs::Writing::put_none), unfolding(crate::specs::Remarks::limit_remark, crate::specs::Remarks::limit_line, quoted::specs::Quoted::quoted))]
+pub(crate) fn push_limit<const N: usize>(page: &mut Page<N>, n: u32)
+    requires { length page.old + 99 ≤ N }
+    ensures { Put 99 page.old (limit_remark n) page.new }
 {
-    if n == 0 {
-        return at;
+    if n != 0 {
+        push_numeral(page, n);
+        push_directions(page, n);
+        page.push_bytes(b" at the limit of 30 dB below the peak: the gain there is that or less\n");
     }
-    let directions_at = push_numeral(out, at, n);
-    let limit_at = push_directions(out, directions_at, n);
-    push_bytes(
-        out,
-        limit_at,
-        b" at the limit of 30 dB below the peak: the gain there is that or less\n",
-    )
 }

@@ -9,8 +9,8 @@ times p q = record { re = p.re ⊗ q.re ⊖ p.im ⊗ q.im; im = p.re ⊗ q.im �
 unfoldable pub plus : Complex → Complex → Complex
 plus p q = record { re = p.re ⊕ q.re; im = p.im ⊕ q.im }
 
-unfoldable pub scaled : Float → Float → Float → Complex
-scaled k re im = record { re = k ⊗ re; im = k ⊗ im }
+unfoldable pub scaled : Float → Complex → Complex
+scaled k p = record { re = k ⊗ p.re; im = k ⊗ p.im }
 
 unfoldable pub power_of : Complex → Float
 power_of p = p.re ⊗ p.re ⊕ p.im ⊗ p.im

@@ -32,9 +32,8 @@ shift_of iant p11 c b0 =
     let b4a = p11 ⊗ (c.bb1 ⊖ c.aa1) ⊗ b0 in
     record { re = cond (eqb iant 8) (cosine b4a) one; im = cond (eqb iant 8) (sine b4a) +0 }
 
-unfoldable pub vertical_of : Crossed → Complex → Float → Float → Float → Float → Complex
-vertical_of c f a0 s re im =
-    plus (times (scaled (neg c.bb1 ⊗ a0 ⊗ s ⊗ c.z2) re im) f) (scaled (c.aa1 ⊗ a0 ⊗ s ⊗ c.z1) re im)
+unfoldable pub vertical_of : Crossed → Complex → Float → Float → Complex → Complex
+vertical_of c f a0 s g = plus (times (scaled (neg c.bb1 ⊗ a0 ⊗ s ⊗ c.z2) g) f) (scaled (c.aa1 ⊗ a0 ⊗ s ⊗ c.z1) g)
 
 unfoldable pub horizontal_of : Crossed → Complex → Float → Float → Complex
 horizontal_of c f w5 w6 =
@@ -47,7 +46,7 @@ unfoldable pub crossed_gain : ℕ → Constants → Factors → Direction → Fl
 crossed_gain iant k w d =
     let c = crossed_of k d in
     let f = shift_of iant k.p11 c d.b0 in
-    let s = vertical_of c f d.a0 d.a0 w.w3 w.w4 in
-    let t = vertical_of c f d.a0 d.b0 w.w9 w.w10 in
+    let s = vertical_of c f d.a0 d.a0 (record { re = w.w3; im = w.w4 }) in
+    let t = vertical_of c f d.a0 d.b0 (record { re = w.w9; im = w.w10 }) in
     let h = horizontal_of c f w.w5 w.w6 in
     sqrt_of (power_of s ⊕ t.re ⊗ t.re ⊕ t.im ⊗ t.im ⊕ power_of h)

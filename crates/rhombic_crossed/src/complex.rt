@@ -2,45 +2,62 @@
 ghost use Rattle.std.specs.Prelude.{◌≡◌};
 ghost use Rattle.rhombic_crossed.specs.Complex.{times, plus, scaled, power_of};
 
+use std::ops::{Add, Mul};
+
 #[derive(Clone, Copy)]
 pub struct Complex {
     pub re: f32,
     pub im: f32,
 }
 
-#[tactic(auto, unfolding(crate::specs::Complex::times))]
-pub(crate) fn product(p: Complex, q: Complex) -> Complex
-    ensures { result ≡ times p q }
-{
-    Complex {
-        re: p.re * q.re - p.im * q.im,
-        im: p.re * q.im + p.im * q.re,
+impl Add for Complex {
+    type Output = Complex;
+
+    ghost add_gives = { λ p q sum. sum ≡ plus p q };
+
+    #[tactic(auto, unfolding(crate::specs::Complex::plus))]
+    fn add(self, q: Complex) -> Complex {
+        Complex {
+            re: self.re + q.re,
+            im: self.im + q.im,
+        }
     }
 }
 
-#[tactic(auto, unfolding(crate::specs::Complex::plus))]
-pub(crate) fn add(p: Complex, q: Complex) -> Complex
-    ensures { result ≡ plus p q }
-{
-    Complex {
-        re: p.re + q.re,
-        im: p.im + q.im,
+impl Mul for Complex {
+    type Output = Complex;
+
+    ghost mul_gives = { λ p q product. product ≡ times p q };
+
+    #[tactic(auto, unfolding(crate::specs::Complex::times))]
+    fn mul(self, q: Complex) -> Complex {
+        Complex {
+            re: self.re * q.re - self.im * q.im,
+            im: self.re * q.im + self.im * q.re,
+        }
     }
 }
 
-#[tactic(auto, unfolding(crate::specs::Complex::scaled))]
-pub(crate) fn scale(k: f32, re: f32, im: f32) -> Complex
-    ensures { result ≡ scaled k re im }
-{
-    Complex {
-        re: k * re,
-        im: k * im,
+impl Mul<Complex> for f32 {
+    type Output = Complex;
+
+    ghost mul_gives = { λ k p product. product ≡ scaled k p };
+
+    #[tactic(auto, unfolding(crate::specs::Complex::scaled))]
+    fn mul(self, p: Complex) -> Complex {
+        Complex {
+            re: self * p.re,
+            im: self * p.im,
+        }
     }
 }
 
-#[tactic(auto, unfolding(crate::specs::Complex::power_of))]
-pub(crate) fn power(p: Complex) -> f32
-    ensures { result ≡ power_of p }
-{
-    p.re * p.re + p.im * p.im
+impl Complex {
+    // The square of its size.
+    #[tactic(auto, unfolding(crate::specs::Complex::power_of))]
+    pub fn power(self) -> f32
+        ensures { result ≡ power_of self }
+    {
+        self.re * self.re + self.im * self.im
+    }
 }

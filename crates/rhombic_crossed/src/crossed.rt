@@ -1,10 +1,12 @@
 // The quadrant antenna, type 8, and the crossed dipoles, type 9, at one direction.
 ghost use Rattle.std.specs.Prelude.{◌≡◌};
+ghost use Rattle.model.specs.Types.{type_number};
 ghost use Rattle.rhombic_crossed.specs.CrossedParts.{crossed_of, shift_of, vertical_of, horizontal_of};
 ghost use Rattle.rhombic_crossed.specs.Crossed.{gain89};
 
 use crate::complex::Complex;
 use model::record::{Constants, Direction, Factors};
+use model::types::AntennaType;
 
 // Two crossed dipoles at one direction: the azimuth from each, and each one's factor.
 #[derive(Clone, Copy)]
@@ -29,34 +31,34 @@ pub(crate) fn dipoles(k: Constants, d: Direction) -> Crossed
     Crossed {
         aa1,
         bb1,
-        z1: b2 / numeric::float::abs(1.0 - a11 * a11),
+        z1: b2 / (1.0 - a11 * a11).abs(),
         z2: b3 / (1.0 - a12 * a12),
     }
 }
 
 // The phase of the second dipole against the first, b4 and b5: type 9's are fed as one.
 #[tactic(auto, unfolding(crate::specs::CrossedParts::shift_of))]
-pub(crate) fn shift(iant: u32, p11: f32, c: Crossed, b0: f32) -> Complex
-    ensures { result ≡ shift_of iant p11 c b0 }
+pub(crate) fn shift(kind: AntennaType, p11: f32, c: Crossed, b0: f32) -> Complex
+    ensures { result ≡ shift_of (type_number kind) p11 c b0 }
 {
-    if iant == 8 {
-        let b4a = p11 * (c.bb1 - c.aa1) * b0;
-        return Complex {
-            re: sine::cos(b4a),
-            im: sine::sin(b4a),
-        };
+    match kind {
+        AntennaType::Quadrant => {
+            let b4a = p11 * (c.bb1 - c.aa1) * b0;
+            Complex {
+                re: sine::cos(b4a),
+                im: sine::sin(b4a),
+            }
+        }
+        _ => Complex { re: 1.0, im: 0.0 },
     }
-    Complex { re: 1.0, im: 0.0 }
 }
 
-// A vertical field: s is the sine or the cosine of the elevation, re and im the ground's factors for it.
+// A vertical field: s is the sine or the cosine of the elevation, g the ground's factor for it.
 #[tactic(auto, unfolding(crate::specs::CrossedParts::vertical_of))]
-pub(crate) fn vertical(c: Crossed, f: Complex, a0: f32, s: f32, re: f32, im: f32) -> Complex
-    ensures { result ≡ vertical_of c f a0 s re im }
+pub(crate) fn vertical(c: Crossed, f: Complex, a0: f32, s: f32, g: Complex) -> Complex
+    ensures { result ≡ vertical_of c f a0 s g }
 {
-    let x = crate::complex::scale(-c.bb1 * a0 * s * c.z2, re, im);
-    let y = crate::complex::scale(c.aa1 * a0 * s * c.z1, re, im);
-    crate::complex::add(crate::complex::product(x, f), y)
+    (-c.bb1 * a0 * s * c.z2 * g) * f + c.aa1 * a0 * s * c.z1 * g
 }
 
 // The horizontal field, with the ground's factors w5 and w6.
@@ -72,19 +74,24 @@ pub(crate) fn horizontal(c: Crossed, f: Complex, w5: f32, w6: f32) -> Complex
         re: -c.bb1 * w5 * c.z1,
         im: -c.bb1 * w6 * c.z1,
     };
-    crate::complex::add(crate::complex::product(x, f), y)
+    x * f + y
 }
 
 // `gainrel`'s arm for 8, the quadrant antenna, and 9, the crossed dipoles.
 #[tactic(auto, using(crate::proofs::crossed::Whole::crossed_whole), unfolding(crate::specs::CrossedParts::crossed_gain))]
-pub fn gain_89(iant: u32, k: Constants, w: Factors, d: Direction) -> f32
-    ensures { result ≡ gain89 iant k w d }
+pub fn gain_89(kind: AntennaType, k: Constants, w: Factors, d: Direction) -> f32
+    ensures { result ≡ gain89 (type_number kind) k w d }
 {
     let c = dipoles(k, d);
-    let f = shift(iant, k.p11, c, d.b0);
-    let s = vertical(c, f, d.a0, d.a0, w.w3, w.w4);
-    let t = vertical(c, f, d.a0, d.b0, w.w9, w.w10);
+    let f = shift(kind, k.p11, c, d.b0);
+    let raised = Complex { re: w.w3, im: w.w4 };
+    let level = Complex {
+        re: w.w9,
+        im: w.w10,
+    };
+    let s = vertical(c, f, d.a0, d.a0, raised);
+    let t = vertical(c, f, d.a0, d.b0, level);
     let h = horizontal(c, f, w.w5, w.w6);
-    let w7s = crate::complex::power(s) + t.re * t.re + t.im * t.im;
-    root::sqrt(w7s + crate::complex::power(h))
+    let w7s = s.power() + t.re * t.re + t.im * t.im;
+    root::sqrt(w7s + h.power())
 }

@@ -82,9 +82,9 @@ pub fn gain_7(k: Constants, w: Factors, d: Direction) -> f32
     let r = current(k.sl, l.t5, l.t6);
     let a7 = sine::sin(k.h1 * d.a0);
     let b7 = sine::cos(k.h1 * d.a0);
-    let h = crate::complex::product(r, horizontal_image(w, a7, b7));
-    let v = crate::complex::product(r, vertical_image(w, a7, b7));
-    let h6 = 30.0 * l.b6 * root::sqrt(crate::complex::power(h));
-    let w3x = 30.0 * d.a0 * l.a6 * root::sqrt(crate::complex::power(v));
+    let h = r * horizontal_image(w, a7, b7);
+    let v = r * vertical_image(w, a7, b7);
+    let h6 = 30.0 * l.b6 * root::sqrt(h.power());
+    let w3x = 30.0 * d.a0 * l.a6 * root::sqrt(v.power());
     root::sqrt(h6 * h6 + w3x * w3x)
 }

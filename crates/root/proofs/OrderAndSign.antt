@@ -10,6 +10,7 @@ use lib.Pow.{pow_pos}
 use lib.Ieee.{Float, nan, inf, fin, binary32, le, fits}
 use lib.Ieee.Order.{round_mono}
 use lib.Ieee.Positive.{positive}
+use Rattle.std.specs.Float.{float_with_sign}
 use Rattle.numeric.specs.Float.{mag}
 use Rattle.root.specs.Root.{root, square, sqrt_of}
 use Rattle.root.proofs.Nearest.{root_of_lem}
@@ -25,6 +26,7 @@ sqrt_positive_lem x f p = (root_of_lem x f p).above_zero
 
 -- ---- the sign
 clear : (y : Float) → T (positive y) → mag y ≡ y
+unfolding float_with_sign
 clear nan p = absurd p
 clear (inf s) p = absurd p
 clear (fin true m e) p = absurd p
@@ -36,7 +38,7 @@ minus-zero-held = tt
 
 -- the root has no sign, unless x is -0
 pub sqrt_clear : (x : Float) → T (fits binary32 x) → (mag (sqrt_of x) ≡ sqrt_of x) ⊎ (x ≡ fin true 0 (pos 0))
-unfolding sqrt_of
+unfolding sqrt_of float_with_sign
 sqrt_clear nan f = inl refl
 sqrt_clear (inf true) f = inl refl
 sqrt_clear (inf false) f = inl refl

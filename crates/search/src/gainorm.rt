@@ -1,13 +1,13 @@
 // The search for the pattern's maximum, `azmax` and `gainorm`, with the count of its readings.
 // The elevation pass has its 90 gains from `up`.
-ghost use Rattle.std.specs.Prelude.{◌≡◌, ◌+◌, ◌^◌, ◌<◌, ◌≤◌, true, length};
-ghost use Rattle.model.specs.Counts.{counts_ok};
-ghost use Rattle.model.specs.Table.{table_size};
+ghost use Rattle.std.specs.Prelude.{◌≡◌, ◌+◌, ◌^◌, ◌<◌};
+ghost use Rattle.model.specs.Types.{type_number};
 ghost use Rattle.search.specs.Search.{untold, tallied, plateau_centre, azmax_read, turns_in, azmax_of, sweep_read, sweep_of, plane_elevation, plane_of, plane_searched, aim_of, elevation_read, elevations_of, wrapped, refined_of, unrefined, last_searched, gainorm_of};
 ghost use Rattle.search.specs.Turns.{turns, azmax_turn};
 
 use crate::record::Peak;
-use model::record::Model;
+use model::checked::Checked;
+use model::types::AntennaType;
 use pattern::gainrel::gainrel;
 use pattern::passes::up;
 
@@ -131,14 +131,14 @@ fn turns_in(x: f32) -> u32
 
 // `count` readings, vm degrees apart.
 #[tactic(auto, using(crate::proofs::gainorm::Readings::azmax_reads), unfolding(crate::specs::Turns::turns, crate::specs::Turns::azmax_turn))]
-fn azmax_turns(m: &Model, table: &[f32], u: f32, vm: f32, s: Azimuths, count: u32) -> Azimuths
-    requires { (counts_ok m.now ≡ true) × (table_size ≤ length table.now) × (s.tally.readings < 2 ^ 36) × (s.j ≡ 0) × (count < 2 ^ 31) }
-    ensures value { result ≡ turns (azmax_turn m.now table.now u vm) s count }
+fn azmax_turns(c: Checked<'_>, u: f32, vm: f32, s: Azimuths, count: u32) -> Azimuths
+    requires { (s.tally.readings < 2 ^ 36) × (s.j ≡ 0) × (count < 2 ^ 31) }
+    ensures value { result ≡ turns (azmax_turn c.entry.model.now c.entry.table.now u vm) s count }
     ensures readings_value { result.tally.readings ≡ s.tally.readings + count }
 {
     let mut out = s;
     for i in 0..count {
-        out = azmax_read(out, vm, gainrel(m, table, u, out.v));
+        out = azmax_read(out, vm, gainrel(c, u, out.v));
     }
     out
 }
@@ -146,8 +146,7 @@ fn azmax_turns(m: &Model, table: &[f32], u: f32, vm: f32, s: Azimuths, count: u3
 // `azmax` from vmin1 to vmax1 in steps of vm.
 #[tactic(auto, using(crate::proofs::gainorm::Turns::azmax_turned))]
 fn azmax(
-    m: &Model,
-    table: &[f32],
+    c: Checked<'_>,
     u: f32,
     vmin1: f32,
     vmax1: f32,
@@ -156,8 +155,8 @@ fn azmax(
     vmax0: f32,
     tally: Tally,
 ) -> Azimuths
-    requires { (counts_ok m.now ≡ true) × (table_size ≤ length table.now) × (tally.readings < 2 ^ 36) }
-    ensures value { result ≡ azmax_of m.now table.now u vmin1 vmax1 vm rmax0 vmax0 tally }
+    requires { (tally.readings < 2 ^ 36) }
+    ensures value { result ≡ azmax_of c.entry.model.now c.entry.table.now u vmin1 vmax1 vm rmax0 vmax0 tally }
     ensures readings_bound { result.tally.readings < tally.readings + 2 ^ 31 }
 {
     let count = turns_in((vmax1 - vmin1 + vm) / vm);
@@ -168,7 +167,7 @@ fn azmax(
         v: vmin1,
         tally,
     };
-    azmax_turns(m, table, u, vm, start, count)
+    azmax_turns(c, u, vm, start, count)
 }
 
 // The sweep keeps the first of equal gains.
@@ -193,9 +192,8 @@ fn sweep_read(s: Azimuths, z9: f32) -> Azimuths
 
 // Nineteen readings, 10 degrees apart, from 270 on.
 #[tactic(auto, unfolding(crate::specs::Search::untold, crate::specs::Turns::turns, crate::specs::Turns::sweep_turn, crate::specs::Search::sweep_read, crate::specs::Search::tallied))]
-fn sweep(m: &Model, table: &[f32], u: f32, vmax: f32) -> Azimuths
-    requires { (counts_ok m.now ≡ true) × (table_size ≤ length table.now) }
-    ensures value { result ≡ sweep_of m.now table.now u vmax }
+fn sweep(c: Checked<'_>, u: f32, vmax: f32) -> Azimuths
+    ensures value { result ≡ sweep_of c.entry.model.now c.entry.table.now u vmax }
     ensures readings_value { result.tally.readings ≡ 19 }
 {
     let mut out = Azimuths {
@@ -206,29 +204,31 @@ fn sweep(m: &Model, table: &[f32], u: f32, vmax: f32) -> Azimuths
         tally: no_tally(),
     };
     for i in 0..19u32 {
-        out = sweep_read(out, gainrel(m, table, u, out.v));
+        out = sweep_read(out, gainrel(c, u, out.v));
     }
     out
 }
 
 #[tactic(auto, unfolding(crate::specs::Search::plane_elevation))]
-fn plane_elevation(iant: u32) -> f32
-    ensures { result ≡ plane_elevation iant }
+fn plane_elevation(kind: AntennaType) -> f32
+    ensures { result ≡ plane_elevation (type_number kind) }
 {
-    if iant == 4 { 45.0 } else { 5.0 }
+    match kind {
+        AntennaType::Tropical => 45.0,
+        _ => 5.0,
+    }
 }
 
 // The horizontal plane of a slewed or tropical pattern, from the start azimuth vmax.
 #[tactic(auto, unfolding(crate::specs::Search::plane_of))]
-fn plane(m: &Model, table: &[f32], vmax: f32) -> Aimed
-    requires { (counts_ok m.now ≡ true) × (table_size ≤ length table.now) }
-    ensures value { result ≡ plane_of m.now table.now vmax }
+fn plane(c: Checked<'_>, vmax: f32) -> Aimed
+    ensures value { result ≡ plane_of c.entry.model.now c.entry.table.now vmax }
     ensures readings_bound { result.tally.readings < 2 ^ 32 }
 {
-    let u = plane_elevation(m.iant);
-    let s = sweep(m, table, u, vmax);
+    let u = plane_elevation(c.kind);
+    let s = sweep(c, u, vmax);
     let v = s.vmax;
-    let r = azmax(m, table, u, v - 10.0, v + 10.0, 1.0, s.rmax, v, s.tally);
+    let r = azmax(c, u, v - 10.0, v + 10.0, 1.0, s.rmax, v, s.tally);
     Aimed {
         vmax: r.vmax,
         tally: r.tally,
@@ -236,21 +236,24 @@ fn plane(m: &Model, table: &[f32], vmax: f32) -> Aimed
 }
 
 #[tactic(auto, unfolding(crate::specs::Search::plane_searched))]
-fn plane_searched(iant: u32, slewed: bool) -> bool
-    ensures { result ≡ plane_searched iant slewed }
+fn plane_searched(kind: AntennaType, slewed: bool) -> bool
+    ensures { result ≡ plane_searched (type_number kind) slewed }
 {
-    (iant == 4) | ((iant < 4) & slewed)
+    match kind {
+        AntennaType::Tropical => true,
+        AntennaType::Multiband | AntennaType::CentreFed | AntennaType::EndFed => slewed,
+        _ => false,
+    }
 }
 
 // The azimuth of the elevation pass.
 #[tactic(auto, unfolding(crate::specs::Search::aim_of, crate::specs::Search::untold))]
-fn aim(m: &Model, table: &[f32], vmax: f32) -> Aimed
-    requires { (counts_ok m.now ≡ true) × (table_size ≤ length table.now) }
-    ensures value { result ≡ aim_of m.now table.now vmax }
+fn aim(c: Checked<'_>, vmax: f32) -> Aimed
+    ensures value { result ≡ aim_of c.entry.model.now c.entry.table.now vmax }
     ensures readings_bound { result.tally.readings < 2 ^ 32 }
 {
-    if plane_searched(m.iant, m.slewed) {
-        return plane(m, table, vmax);
+    if plane_searched(c.kind, c.model.slewed) {
+        return plane(c, vmax);
     }
     Aimed {
         vmax: 0.0,
@@ -277,12 +280,12 @@ fn elevation_read(e: Elevations, u: f32, z9: f32) -> Elevations
 
 // Elevations 1 to 90 at azimuth v.
 #[tactic(auto, using(pattern::proofs::passes::Entries::up_at), unfolding(crate::specs::Turns::elevations_to, crate::specs::Search::elevation_read, crate::specs::Search::tallied))]
-fn elevation_pass(m: &Model, table: &[f32], v: f32, e: Elevations) -> Elevations
-    requires { (counts_ok m.now ≡ true) × (table_size ≤ length table.now) × (e.tally.readings < 2 ^ 36) }
-    ensures value { result ≡ elevations_of m.now table.now v e }
+fn elevation_pass(c: Checked<'_>, v: f32, e: Elevations) -> Elevations
+    requires { (e.tally.readings < 2 ^ 36) }
+    ensures value { result ≡ elevations_of c.entry.model.now c.entry.table.now v e }
     ensures readings_value { result.tally.readings ≡ e.tally.readings + 90 }
 {
-    let gains = up(m, table, v);
+    let gains = up(c, v);
     let mut out = e;
     for i in 0..90u16 {
         out = elevation_read(out, (i + 1) as f32, gains[i as usize]);
@@ -299,11 +302,11 @@ fn wrap(v: f32) -> f32
 
 // The last azimuth pass, 5 degrees to each side of v.
 #[tactic(auto, unfolding(crate::specs::Search::refined_of))]
-fn refine(m: &Model, table: &[f32], e: Elevations, v: f32) -> Search
-    requires { (counts_ok m.now ≡ true) × (table_size ≤ length table.now) × (e.tally.readings < 2 ^ 36) }
-    ensures { result ≡ refined_of m.now table.now e v }
+fn refine(c: Checked<'_>, e: Elevations, v: f32) -> Search
+    requires { (e.tally.readings < 2 ^ 36) }
+    ensures { result ≡ refined_of c.entry.model.now c.entry.table.now e v }
 {
-    let s = azmax(m, table, e.umax, v - 5.0, v + 5.0, 1.0, e.wmx, v, e.tally);
+    let s = azmax(c, e.umax, v - 5.0, v + 5.0, 1.0, e.wmx, v, e.tally);
     let peak = Peak {
         z6: s.rmax,
         umax: e.umax,
@@ -331,28 +334,27 @@ fn leave_unrefined(e: Elevations, v: f32) -> Search
 }
 
 #[tactic(auto, unfolding(crate::specs::Search::last_searched))]
-fn last_searched(iant: u32, slewed: bool) -> bool
-    ensures { result ≡ last_searched iant slewed }
+fn last_searched(kind: AntennaType, slewed: bool) -> bool
+    ensures { result ≡ last_searched (type_number kind) slewed }
 {
-    slewed | (iant == 4)
+    slewed | matches!(kind, AntennaType::Tropical)
 }
 
 // `gainorm`: the pattern's maximum, from the start values of umax and vmax. Inner step: its model
 // and its table are those that set-up has made.
 #[tactic(auto, unfolding(crate::specs::Search::gainorm_of, crate::specs::Search::raised_of))]
-pub fn gainorm(m: &Model, table: &[f32], start: Peak) -> Search
-    requires { (counts_ok m.now ≡ true) × (table_size ≤ length table.now) }
-    ensures { result ≡ gainorm_of m.now table.now start }
+pub fn gainorm(c: Checked<'_>, start: Peak) -> Search
+    ensures { result ≡ gainorm_of c.entry.model.now c.entry.table.now start }
 {
-    let a = aim(m, table, start.vmax);
+    let a = aim(c, start.vmax);
     let level = Elevations {
         wmx: 0.0,
         umax: start.umax,
         tally: a.tally,
     };
-    let e = elevation_pass(m, table, a.vmax, level);
-    if last_searched(m.iant, m.slewed) {
-        refine(m, table, e, a.vmax)
+    let e = elevation_pass(c, a.vmax, level);
+    if last_searched(c.kind, c.model.slewed) {
+        refine(c, e, a.vmax)
     } else {
         leave_unrefined(e, a.vmax)
     }

@@ -1,7 +1,8 @@
 // The plate that people see, for Rust and C callers; `dbi_text`, `svg_text` and `compare_text` have what
 // each call does.
 ghost use Rattle.std.specs.Prelude.{ltb, length};
-ghost use Rattle.dbi_text.specs.Dbi.{Wrote, text_in};
+ghost use Rattle.words.specs.Writing.{Wrote};
+ghost use Rattle.dbi_text.specs.Dbi.{text_in};
 ghost use Rattle.svg_text.specs.Svg.{svg_in, svg_two_in};
 ghost use Rattle.compare_text.specs.Compare.{compare_in};
 

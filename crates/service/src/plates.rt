@@ -1,6 +1,7 @@
 // The programs `plate` and `planet` for Rust and C callers.
 ghost use Rattle.std.specs.Prelude.{◌≡◌, length};
-ghost use Rattle.plate_text.specs.Plate.{Wrote, text_in};
+ghost use Rattle.words.specs.Writing.{Wrote};
+ghost use Rattle.plate_text.specs.Plate.{text_in};
 ghost use Rattle.planet_text.specs.Planet.{planet_of, text_after};
 ghost use Rattle.packed.specs.Packed.{counted};
 

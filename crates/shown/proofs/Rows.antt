@@ -9,7 +9,7 @@ use Rattle.hundredths.specs.Raised.{lowered}
 use Rattle.shown.specs.InOrder.{up_to}
 use Rattle.answers.specs.declared.Kind.TheVariants as kind
 use Rattle.shown.specs.Plate.{Entry, entry_at, entries_of}
-use Rattle.shown.specs.declared.Shown.{Shown}
+use Rattle.dial.specs.declared.Row.{Row}
 use Rattle.shown.specs.Rows.{raised, numbers_of, kinds_of}
 
 up_to_front : {A : Type 0} (f : ℕ → A) (n : ℕ) → up_to f (suc n) ≡ f 0 ∷ up_to (λ (k : ℕ). f (suc k)) n
@@ -33,7 +33,7 @@ raised-lowered : (r : ℕ) → raised (lowered r) ≡ r
 unfolding raised lowered
 raised-lowered r = ap nat_abs (-ℤ-+ℤ_cancel (pos r) (pos 100000))
 
-module _ (s : Shown) where
+module _ (s : Row) where
   pub numbers_shown : length s.numbers ≡ 360 → numbers_of (entries_of s) ≡ s.numbers
   unfolding numbers_of
   numbers_shown len =

@@ -9,7 +9,7 @@ use Rattle.hundredths.specs.Hundredths.{in_span, hundredths_of}
 use Rattle.hundredths.specs.Raised.{lowered}
 use Rattle.request.specs.Request.{and_then}
 use Rattle.shown.specs.InOrder.{up_to, in_order}
-use Rattle.shown.specs.declared.Shown.{Shown}
+use Rattle.dial.specs.declared.Row.{Row}
 
 -- a gain as it is shown: its kind, and its number in hundredths
 abbrev pub Entry : Type 0
@@ -26,10 +26,10 @@ plate_of gain = and_then (in_order gain 360) λ (gains : List (Kind × Float)). 
 -- ---- what the code's answer stands for
 
 -- the kind and the raised hundredths at an azimuth
-abbrev pub entry_at : Shown → ℕ → Entry
+abbrev pub entry_at : Row → ℕ → Entry
 entry_at s v = (get_or s.kinds v kind.Level, lowered (get_or s.numbers v 0))
 
-abbrev pub entries_of : Shown → List Entry
+abbrev pub entries_of : Row → List Entry
 entries_of s = up_to (entry_at s) 360
 
 -- ---- the code's step: a kind and a number of two lists

@@ -1,27 +1,18 @@
 // The plate of a curtain: its levels around one elevation, with one factor.
 ghost use Rattle.std.specs.Prelude.{◌≡◌};
 ghost use Rattle.answers.specs.Outcome.{outcome, outcome_as, number_of};
-ghost use Rattle.plate_row.specs.Row.{elevation_ok};
 ghost use Rattle.curtain.specs.Answers.{station_refusal_of};
 ghost use Rattle.shown.specs.Plate.{entries_of, plate_of};
 ghost use Rattle.shown.specs.CurtainPlate.{no_factor, listed_factor, factor_of, curtain_refusal, level_at, curtain_plate};
 
-use crate::Shown;
 use crate::gains::in_hundredths;
 use answers::{Kind, Refusal};
 use curtain::{factor, gain};
 use curtain_why::why::why;
-use floats::range::is_between;
-use numeric::float::{is_finite, of_i32, to_i32, to_usize};
+use dial::Row;
+use numeric::float::{is_finite, to_usize};
+use plate_row::row::elevation_ok;
 use station::Station;
-
-// A whole elevation from 0 to 90, as a row's is.
-fn elevation_ok(u: f32) -> bool
-    ensures { result ≡ elevation_ok u }
-{
-    let whole = of_i32(to_i32(u));
-    is_between(u, 0.0, 90.0) & (u == whole)
-}
 
 // Whether a curtain may have these parameters, or its refusal.
 fn check_station(parm: [f32; 20]) -> Result<(), Refusal>
@@ -34,6 +25,7 @@ fn check_station(parm: [f32; 20]) -> Result<(), Refusal>
 }
 
 // What is tested before the factor is looked for.
+#[tactic(auto, unfolding(crate::specs::CurtainPlate::curtain_refusal))]
 fn check(parm: [f32; 20], mhz: f32, design: f32, u: f32) -> Result<(), Refusal>
     ensures { number_of result ≡ curtain_refusal parm mhz design u }
 {
@@ -48,20 +40,18 @@ fn check(parm: [f32; 20], mhz: f32, design: f32, u: f32) -> Result<(), Refusal>
 }
 
 // The factor that the record lists at slot 4's whole MHz.
+#[tactic(auto, unfolding(crate::specs::CurtainPlate::listed_factor))]
 fn listed_factor(s: Station) -> f32
     ensures { result ≡ listed_factor s }
 {
-    let mhz = to_usize(s.parm[4]);
-    if 30 < mhz {
-        return -99999.0;
+    match to_usize(s.parm[4]) {
+        mhz @ 1..=30 => s.gainmaxb[mhz - 1],
+        _ => -99999.0,
     }
-    if mhz == 0 {
-        return -99999.0;
-    }
-    s.gainmaxb[mhz - 1]
 }
 
 // The factor of all levels: listed, or found once by the integral.
+#[tactic(auto, unfolding(crate::specs::CurtainPlate::factor_of))]
 fn factor_of(s: Station) -> Result<f32, Refusal>
     ensures { outcome result ≡ factor_of s }
 {
@@ -73,7 +63,7 @@ fn factor_of(s: Station) -> Result<f32, Refusal>
 }
 
 // The plate of the levels that this factor gives.
-fn show_levels(parm: [f32; 20], factor: f32, u: f32) -> Result<Shown, Refusal>
+fn show_levels(parm: [f32; 20], factor: f32, u: f32) -> Result<Row, Refusal>
     ensures { outcome_as entries_of result ≡ plate_of (level_at parm factor u) }
 {
     let mut levels = [0.0f32; 360];
@@ -85,7 +75,7 @@ fn show_levels(parm: [f32; 20], factor: f32, u: f32) -> Result<Shown, Refusal>
 
 // The plate of a curtain's record, with what stands behind it.
 #[tactic(auto, using(answers::proofs::Outcome::refused_by, answers::proofs::Outcome::granted_by), unfolding(crate::specs::CurtainPlate::curtain_plate, request::specs::Request::and_then))]
-pub(crate) fn show_curtain(s: Station, mhz: f32, design: f32, u: f32) -> Result<Shown, Refusal>
+pub(crate) fn show_curtain(s: Station, mhz: f32, design: f32, u: f32) -> Result<Row, Refusal>
     ensures { outcome_as entries_of result ≡ curtain_plate s mhz design u }
 {
     check(s.parm, mhz, design, u)?;

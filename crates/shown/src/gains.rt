@@ -4,12 +4,12 @@ ghost use Rattle.answers.specs.Outcome.{outcome_as};
 ghost use Rattle.shown.specs.InOrder.{in_order};
 ghost use Rattle.shown.specs.Plate.{in_hundredths, gain_in, entries_of};
 
-use crate::Shown;
 use answers::{Kind, Refusal};
+use dial::Row;
 use hundredths::rounding::{in_span, raised};
 
 // The plate of these numbers and kinds, or the refusal of the first number out of span.
-pub(crate) fn in_hundredths(numbers: &[f32; 360], kinds: [Kind; 360]) -> Result<Shown, Refusal>
+pub(crate) fn in_hundredths(numbers: &[f32; 360], kinds: [Kind; 360]) -> Result<Row, Refusal>
     ensures { outcome_as entries_of result ≡ in_order (λ (v : ℕ). in_hundredths (gain_in kinds numbers.now v)) 360 }
 {
     let mut out = [0u32; 360];
@@ -20,7 +20,7 @@ pub(crate) fn in_hundredths(numbers: &[f32; 360], kinds: [Kind; 360]) -> Result<
         }
         out[v] = raised(x);
     }
-    Ok(Shown {
+    Ok(Row {
         numbers: out,
         kinds,
     })

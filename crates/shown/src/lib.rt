@@ -12,23 +12,17 @@ ghost use Rattle.answers.specs.Outcome.{outcome_as};
 ghost use Rattle.shown.specs.Plate.{entries_of};
 ghost use Rattle.shown.specs.Shown.{read_plate, shown_of};
 
-use answers::{Kind, Refusal};
+use answers::Refusal;
 use curtains::show_curtain;
+use dial::Row;
 use request::station_of;
 use station::Station;
 use stations::show_station;
 use words::big_endian::float_at;
 
-// The gains at azimuths 0 to 359: hundredths as crate `hundredths` raises them, and their kinds.
-#[derive(Clone, Copy)]
-pub struct Shown {
-    pub numbers: [u32; 360],
-    pub kinds: [Kind; 360],
-}
-
 // The plate of the record that was read.
 #[tactic(auto, unfolding(crate::specs::Shown::read_plate))]
-fn show_read(input: &[u8], s: Station) -> Result<Shown, Refusal>
+fn show_read(input: &[u8], s: Station) -> Result<Row, Refusal>
     requires { length input.now ≡ 237 }
     ensures { outcome_as entries_of result ≡ read_plate input.now s }
 {
@@ -43,7 +37,7 @@ fn show_read(input: &[u8], s: Station) -> Result<Shown, Refusal>
 
 // The plate that these bytes ask for.
 #[tactic(auto, unfolding(crate::specs::Shown::shown_of, request::specs::Request::and_then))]
-pub fn show(input: &[u8]) -> Result<Shown, Refusal>
+pub fn show(input: &[u8]) -> Result<Row, Refusal>
     ensures { outcome_as entries_of result ≡ shown_of input.now }
 {
     let station = station_of(input)?;

@@ -7,10 +7,10 @@ ghost use Rattle.antenna.specs.Gain.{kind_of};
 ghost use Rattle.shown.specs.Plate.{entries_of};
 ghost use Rattle.shown.specs.StationPlate.{row_plate, station_plate};
 
-use crate::Shown;
 use crate::gains::in_hundredths;
 use answers::{Kind, Refusal};
 use antenna::gain::kind_of;
+use dial::Row;
 use model::table::blank_table;
 use plate_text::row::asked_row;
 use request::{Request, prepare};
@@ -19,15 +19,11 @@ use request::{Request, prepare};
 fn kinds_of(z6: f32, numbers: &[f32; 360]) -> [Kind; 360]
     ensures { (v : ℕ) → v < 360 → get_or result v kind.Level ≡ kind_of z6 (at numbers.now v) }
 {
-    let mut kinds = [Kind::Level; 360];
-    for v in 0..360 {
-        kinds[v] = kind_of(z6, numbers[v]);
-    }
-    kinds
+    numbers.map(|x| kind_of(z6, x))
 }
 
 // The plate of the row that is asked for.
-fn show_row(q: Request, table: &[f32]) -> Result<Shown, Refusal>
+fn show_row(q: Request, table: &[f32]) -> Result<Row, Refusal>
     ensures { outcome_as entries_of result ≡ row_plate q table.now }
 {
     let numbers = asked_row(q, table)?;
@@ -35,7 +31,7 @@ fn show_row(q: Request, table: &[f32]) -> Result<Shown, Refusal>
 }
 
 // The plate of a station's input.
-pub(crate) fn show_station(input: &[u8]) -> Result<Shown, Refusal>
+pub(crate) fn show_station(input: &[u8]) -> Result<Row, Refusal>
     ensures { outcome_as entries_of result ≡ station_plate input.now }
 {
     let mut table = blank_table();

@@ -7,12 +7,13 @@ use lib.IntN.{pos}
 use lib.Dec.{T, leb, eqb, le→leb}
 use lib.Signed.{le_z_yes}
 use lib.Ieee.{Float, nan, inf, fin, round, neg, le, is_nan}
+use Rattle.std.specs.Float.{float_with_sign}
 use Rattle.numeric.specs.Float.{mag, sign_bit, with_sign}
 use Rattle.numeric.specs.Rounding.{F, truncated}
 use Rattle.sine.specs.Sine.{UnitBounded, sine, cosine, sine_at, cosine_at, sine_units, cosine_units, in_domain, quarter, past, pick, next_term, sums, cut}
 use Rattle.numeric.specs.Inner.{unsigned}
 use Rattle.numeric.proofs.rounding.Laws.{F_mono, F-unsigned}
-use Rattle.numeric.proofs.Signs.{neg-neg, neg-below, neg-turns, unsigned-mag, unsigned-number}
+use Rattle.numeric.proofs.Signs.{neg-neg, neg-below, neg-turns, unsigned-mag}
 use Rattle.sine.proofs.Terms.{cut-le}
 
 -- ---- the sine is odd, the cosine even
@@ -23,7 +24,7 @@ odd-by true false y = refl
 odd-by false s y = refl
 
 pub sine-odd : (x : Float) → sine (neg x) ≡ neg (sine x)
-unfolding sine neg le
+unfolding sine neg le float_with_sign
 sine-odd nan = refl
 sine-odd (inf s) = refl
 sine-odd (fin s m e) =
@@ -31,13 +32,13 @@ sine-odd (fin s m e) =
     odd-by (in_domain (fin s m e)) s (sine_at (quarter n) (past n))
 
 pub cosine_even : (x : Float) → cosine (neg x) ≡ cosine x
-unfolding cosine neg le
+unfolding cosine neg le float_with_sign
 cosine_even nan = refl
 cosine_even (inf s) = refl
 cosine_even (fin s m e) = refl
 
 pub sine-zero : sine (fin false 0 (pos 0)) ≡ fin false 0 (pos 0)
-unfolding sine quarter past sine_at sine_units cosine_units cut sums next_term F neg round le
+unfolding sine quarter past sine_at sine_units cosine_units cut sums next_term F neg round le float_with_sign
 sine-zero = refl
 
 -- ---- the quarters: the sine has S in the even ones and C in the odd ones, negated from the third on; the cosine the other way round, negated in the second and third
@@ -89,10 +90,7 @@ cosine_at_uneven (suc (suc (suc (suc q)))) t h e = absurd (none h)
     none : suc (suc (suc (suc q))) ≤ 3 → ⊥
     none h = omega arith
 
--- a size is a number, and takes a sign as one
-pub size_number : (y : Float) (w : ℕ) → y ≡ F (pos w) → T (not (is_nan y))
-size_number y w e = subst (λ (b : Bool). T (not b)) (sym (ap is_nan e ∙ unsigned-number (F (pos w)) (F-unsigned w))) tt
-
+-- a size takes a sign as a number
 pub size-signed : (y : Float) (w : ℕ) (b : Bool) → y ≡ F (pos w) → with_sign y b ≡ cond b (neg (F (pos w))) (F (pos w))
 size-signed y w b e = let v : mag y ≡ F (pos w) = ap mag e ∙ unsigned-mag (F (pos w)) (F-unsigned w) in (λ i. cond b (neg (v i)) (v i))
 

@@ -12,7 +12,7 @@ ghost use Rattle.numeric.specs.Rounding as Rounding;
 ghost use Rattle.sine.specs.Sine as Sine;
 ghost use Rattle.sine.specs.Inner.{quarter_turn, Summable};
 
-use numeric::float::{abs, is_sign_negative, signed};
+use numeric::float::{is_sign_negative, with_sign};
 use numeric::rounding::{from_units, truncated};
 
 // 2^30 units are 1.
@@ -132,7 +132,7 @@ fn sine_at(a: Angle, negative: bool) -> f32
     } else {
         summed(t, 1, COSINE_TERMS, ONE)
     };
-    signed(size, (q >= 2) != negative)
+    with_sign(size, (q >= 2) != negative)
 }
 
 // The cosine of an angle: C in the even quarters and S in the odd ones.
@@ -147,14 +147,14 @@ fn cosine_at(a: Angle) -> f32
     } else {
         summed(t, 2, SINE_TERMS, t)
     };
-    signed(size, (q == 1) | (q == 2))
+    with_sign(size, (q == 1) | (q == 2))
 }
 
 // Whether a has a sine: |a| is at most 65,536.
 fn in_domain(a: f32) -> bool
     ensures { result ≡ Sine.in_domain a }
 {
-    abs(a) <= 65536.0
+    a.abs() <= 65536.0
 }
 
 // The sine of a radians; a NaN where |a| is above 65,536 or a is no number.
@@ -164,7 +164,7 @@ pub fn sin(a: f32) -> f32
     if in_domain(a) {
         sine_at(reduced(a), is_sign_negative(a))
     } else {
-        0.0 / 0.0
+        f32::NAN
     }
 }
 
@@ -175,6 +175,6 @@ pub fn cos(a: f32) -> f32
     if in_domain(a) {
         cosine_at(reduced(a))
     } else {
-        0.0 / 0.0
+        f32::NAN
     }
 }

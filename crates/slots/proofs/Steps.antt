@@ -34,15 +34,15 @@ module _ (breaks : Breaks) where
   unfolding numbers_from
   no_number_left {n} k h = let e : k - n ≡ 0 = omega arith in rw e
 
-  -- from the loops' number n = 2 + i, where none before it is broken, and slot s, where none before it breaks n
-  module _ {i n s : ℕ} (e : n ≡ 2 + i) (h : i < 6) (numbers : told breaks ≡ numbers_from breaks (8 - (2 + i)) (2 + i)) (slots : lowest breaks n 20 0 ≡ lowest breaks n (20 - s) s) where
-    pub told-here : s < 20 → breaks n s ≡ true → Some (n, s) ≡ told breaks
-    told-here l b = sym (rw (← e) at numbers ∙ number-broken 8 (omega (arith, e)) (slots ∙ slot-breaks 20 l b))
+  -- from the loop's number n = 2 + i, where none before it is broken
+  module _ {i n : ℕ} (e : n ≡ 2 + i) (h : i < 6) (numbers : told breaks ≡ numbers_from breaks (8 - (2 + i)) (2 + i)) where
+    pub told-here : {found : ℕ × ℕ} → Some found ≡ lowest breaks n 20 0 → Some found ≡ told breaks
+    told-here b = sym (rw (← e) at numbers ∙ number-broken 8 (omega (arith, e)) (sym b))
 
-    pub next-number : 20 ≤ s → told breaks ≡ numbers_from breaks (8 - (2 + (i + 1))) (2 + (i + 1))
-    next-number l =
+    pub next-number : None ≡ lowest breaks n 20 0 → told breaks ≡ numbers_from breaks (8 - (2 + (i + 1))) (2 + (i + 1))
+    next-number b =
         let next : 2 + (i + 1) ≡ n + 1 = omega (arith, e) in
-        rw next (rw (← e) at numbers ∙ number-kept 8 (omega (arith, e)) (slots ∙ no_slot_left n 20 l))
+        rw next (rw (← e) at numbers ∙ number-kept 8 (omega (arith, e)) (sym b))
 
 -- the refusals that are about a slot have the numbers from 2 on
 pub number-at : (i : ℕ) → i < 6 → number (slice_index_or (refusals.Value ∷ refusals.Type ∷ refusals.Mode ∷ refusals.Band ∷ refusals.Count ∷ refusals.Aim ∷ []) i refusals.Record) ≡ 2 + i

@@ -7,7 +7,7 @@
 
 ghost use Rattle.std.specs.Prelude.{◌≡◌, ℕ, ◌<◌};
 ghost use Rattle.answers.specs.Outcome.{number};
-ghost use Rattle.slots.specs.Told.{Breaks, told_of, told};
+ghost use Rattle.slots.specs.Told.{Breaks, told_of, lowest, told};
 
 use answers::Refusal;
 
@@ -28,19 +28,30 @@ const ABOUT_SLOTS: [Refusal; 6] = [
     Refusal::Aim,
 ];
 
+// The lowest slot that breaks this limit by the test.
+fn lowest_slot<F: Fn(Refusal, usize) -> bool>(breaks: &F, refusal: Refusal) -> Option<Broken>
+    requires { (s : ℕ) → s < 20 → F.pre breaks.now refusal s }
+    ensures { (test : Breaks) → ((s : ℕ) (x : _) → s < 20 → F.post breaks.now refusal s x → x ≡ test (number refusal) s) → told_of result ≡ lowest test (number refusal) 20 0 }
+{
+    for slot in 0..20 {
+        if breaks(refusal, slot) {
+            return Some(Broken {
+                refusal,
+                slot: slot as u32,
+            });
+        }
+    }
+    None
+}
+
 // The lowest of these that a slot breaks by the test, and the lowest slot that breaks it.
 pub fn lowest_broken<F: Fn(Refusal, usize) -> bool>(breaks: F) -> Option<Broken>
     requires { (r : _) (s : ℕ) → s < 20 → F.pre breaks r s }
     ensures { (test : Breaks) → ((r : _) (s : ℕ) (x : _) → s < 20 → F.post breaks r s x → x ≡ test (number r) s) → told_of result ≡ told test }
 {
     for refusal in ABOUT_SLOTS {
-        for slot in 0..20 {
-            if breaks(refusal, slot) {
-                return Some(Broken {
-                    refusal,
-                    slot: slot as u32,
-                });
-            }
+        if let Some(found) = lowest_slot(&breaks, refusal) {
+            return Some(found);
         }
     }
     None

@@ -10,7 +10,7 @@ use lib.Arith.{digits_lt, digits_div, mod-mul}
 use lib.Pow.{pow_pos}
 use Rattle.words.specs.Digits.{after, digits}
 use Rattle.words.specs.Laid.{laid}
-use Rattle.words.proofs.Laid.{take-laid, laid-length}
+use Rattle.words.proofs.Laid.{take_laid, laid-length}
 use Rattle.station.specs.Record.{packed}
 use Rattle.words.proofs.Digits.{after_append, digits-add, digits_mod_pow, length_digits, digits_last}
 use Rattle.station.proofs.Unpacking.{unit}
@@ -66,7 +66,7 @@ module _ (h X w : ℕ) where
   packed_more out m l room e =
       let vs = digits 256 4 ((X % 2 ^ h * 2 ^ 32 + w) / 2 ^ h) in
       let n : length vs ≡ 4 = length_digits 256 4 ((X % 2 ^ h * 2 ^ 32 + w) / 2 ^ h) in
-      take-laid out m vs (m + 4) (omega arith) (omega arith)
+      take_laid out m vs (m + 4) (omega arith) (omega arith)
       ∙ ap (λ (xs : List ℕ). xs ++ vs) e
       ∙ sym (bytes-more m l)
 

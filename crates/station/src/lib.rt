@@ -23,7 +23,7 @@ use numeric::float::is_finite;
 use packed::{last_byte, put_word, word_at};
 
 // A station: the mode (`modegain`, 3 for the curtain), `parm`, `gainmax` row by row, `gainmaxb`.
-#[derive(Clone, Copy)]
+#[derive(Clone, Copy, Debug, PartialEq)]
 pub struct Station {
     pub mode: u8,
     pub parm: [f32; 20],

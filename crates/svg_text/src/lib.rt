@@ -8,8 +8,6 @@ mod masts;
 
 ghost use Rattle.std.specs.Prelude.{◌≡◌, ◌≤◌, length, take};
 ghost use Rattle.words.specs.Writing.{Wrote};
-ghost use Rattle.answers.specs.Outcome.{number};
-ghost use Rattle.picture.specs.Picture.{refusal_in};
 ghost use Rattle.svg_text.specs.Svg.{caption_of, svg_in, beside_in, svg_two_in};
 ghost use Rattle.svg_text.specs.Drawn.{drawn_of, drawn_mast};
 ghost use Rattle.svg_text.specs.Output.{plate_for, masts_for, output_in};
@@ -32,14 +30,6 @@ fn caption_for(h: Heading) -> captions::Heading
     }
 }
 
-// Writes the picture of a refusal, of which of two masts where there are two.
-fn refuse(mast: u8, refusal: Refusal, text: &mut [u8]) -> usize
-    ensures text { Wrote text.old 0 (refusal_in (length text.old) mast (number refusal)) text.new result }
-    ensures within { (result ≤ length text.new) × (result ≡ length (take result text.new)) }
-{
-    refusal_picture(mast, u8::from(refusal) as u32, text)
-}
-
 // Writes the picture of the plate that these bytes ask for from the buffer's start on, and returns its
 // length. `fold` shows apart what is folded over, where the mirror law holds. A buffer of under 65,536
 // bytes gets nothing.
@@ -50,11 +40,11 @@ pub fn svg(input: &[u8], fold: bool, text: &mut [u8]) -> usize
     ensures within { (result ≤ length text.new) × (result ≡ length (take result text.new)) }
 {
     match read_mast(input) {
-        Err(r) => refuse(0, r, text),
+        Err(r) => refusal_picture(None, r, text),
         Ok(m) => {
             let folded = fold & m.heading.mirrored;
             let caption = caption_for(m.heading);
-            picture(&m.row.numbers, &m.row.kinds, folded, caption, text)
+            picture(&m.row, folded, caption, text)
         }
     }
 }
@@ -66,19 +56,11 @@ fn svg_beside(first: Mast, second: &[u8], text: &mut [u8]) -> usize
     ensures within { (result ≤ length text.new) × (result ≡ length (take result text.new)) }
 {
     match read_mast(second) {
-        Err(r) => refuse(2, r, text),
+        Err(r) => refusal_picture(Some(captions::Mast::B), r, text),
         Ok(m) => {
             let above = caption_for(first.heading);
             let below = caption_for(m.heading);
-            pair(
-                &first.row.numbers,
-                &first.row.kinds,
-                above,
-                &m.row.numbers,
-                &m.row.kinds,
-                below,
-                text,
-            )
+            pair(&first.row, above, &m.row, below, text)
         }
     }
 }
@@ -94,7 +76,7 @@ pub fn svg_two(first: &[u8], second: &[u8], text: &mut [u8]) -> usize
         return 0;
     }
     match read_mast(first) {
-        Err(r) => refuse(1, r, text),
+        Err(r) => refusal_picture(Some(captions::Mast::A), r, text),
         Ok(m) => svg_beside(m, second, text),
     }
 }
@@ -107,7 +89,7 @@ fn asked_plate(input: &[u8], text: &mut [u8]) -> usize
     ensures within { (result ≤ length text.new) × (result ≡ length (take result text.new)) }
 {
     if 1 < input[0] {
-        return refuse(0, Refusal::Record, text);
+        return refusal_picture(None, Refusal::Record, text);
     }
     svg(&input[1..238], input[0] == 1, text)
 }
@@ -120,7 +102,7 @@ fn asked_masts(input: &[u8], text: &mut [u8]) -> usize
     ensures within { (result ≤ length text.new) × (result ≡ length (take result text.new)) }
 {
     if input[0] != 2 {
-        return refuse(0, Refusal::Record, text);
+        return refusal_picture(None, Refusal::Record, text);
     }
     svg_two(&input[1..238], &input[238..475], text)
 }
@@ -139,6 +121,6 @@ pub fn output(input: &[u8], text: &mut [u8]) -> usize
     match input.len() {
         238 => asked_plate(input, text),
         475 => asked_masts(input, text),
-        _ => refuse(0, Refusal::Record, text),
+        _ => refusal_picture(None, Refusal::Record, text),
     }
 }

@@ -4,12 +4,13 @@ ghost use Rattle.answers.specs.Outcome.{outcome_as};
 ghost use Rattle.svg_text.specs.Drawn.{drawn_of, drawn_mast};
 
 use answers::Refusal;
+use dial::Row;
 use heading::{Heading, tell};
-use shown::{Shown, show};
+use shown::show;
 
 #[derive(Clone, Copy)]
 pub(crate) struct Mast {
-    pub row: Shown,
+    pub row: Row,
     pub heading: Heading,
 }
 

@@ -1,2 +1,1 @@
--- What the proofs share.
-mod Choice
+-- No laws yet that other crates cite.

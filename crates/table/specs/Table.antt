@@ -1,9 +1,12 @@
 -- Issue 27: "a table (peak and where, width of the beam at 3 dB, front-to-back, how many azimuths each leads in)". Definitions only.
-use Rattle.std.specs.Prelude.{ℕ, ◌+◌, ◌*◌, cond, List, ◌++◌}
+use Rattle.std.specs.Prelude.{ℕ, ◌+◌, ◌*◌, List, ◌++◌}
 use Rattle.quoted.specs.Quoted.{quoted}
 use Rattle.labels.specs.Writing.{whole, reading}
 use Rattle.figures.specs.Figures.{difference}
 use Rattle.captions.specs.declared.Heading.{Heading}
+use Rattle.table.specs.declared.column.Shown.{Shown}
+use Rattle.table.specs.declared.column.Shape.{Shape}
+use Rattle.table.specs.declared.column.Shape.TheVariants as shape
 use Rattle.table.specs.declared.column.Figures.{Figures}
 
 -- the start of a cell: a column begins at x, and rows stand 310 apart
@@ -44,17 +47,17 @@ leads_text x leads = cell_text x 4 ++ whole (quoted "'>") leads ++ quoted " azim
 unfoldable pub none_text : ℕ → List ℕ → List ℕ
 none_text x words = words_text x 1 words ++ words_text x 2 (quoted "-") ++ words_text x 3 (quoted "-")
 
-unfoldable pub shown_text : ℕ → Figures → List ℕ
-shown_text x f = peak_text x f.peak f.azimuth ++ beam_text x f.beam ++ back_text x f.front f.behind
+unfoldable pub shown_text : ℕ → Shown → List ℕ
+shown_text x s = peak_text x s.peak s.azimuth ++ beam_text x s.beam ++ back_text x s.front s.behind
 
 -- a silence and a row of floors alone have no peak to speak of
-unfoldable pub shape_text : ℕ → Figures → List ℕ
-shape_text x f =
-    cond f.silent (none_text x (quoted "silence"))
-    (cond f.floor (none_text x (quoted "floor all round")) (shown_text x f))
+unfoldable pub shape_text : ℕ → Shape → List ℕ
+shape_text x shape.Silence = none_text x (quoted "silence")
+shape_text x shape.Floors = none_text x (quoted "floor all round")
+shape_text x (shape.Shown s) = shown_text x s
 
-unfoldable pub column_text : ℕ → Heading → Figures → List ℕ
-column_text x h f = set_text x h ++ shape_text x f ++ leads_text x f.leads
+unfoldable pub column_text : ℕ → Figures → List ℕ
+column_text x f = set_text x f.heading ++ shape_text x f.shape ++ leads_text x f.leads
 
 -- ---- the table: what its columns and rows are, then the masts'
 
@@ -64,5 +67,5 @@ heads_text =
     ++ quoted "<text x='-850' y='8060'>set at</text>\n<text x='-850' y='8370'>peak</text>\n<text x='-850' y='8680'>beam at 3 dB</text>\n"
     ++ quoted "<text x='-850' y='8990'>front-to-back</text>\n<text x='-850' y='9300'>leads in</text>\n"
 
-unfoldable pub table_text : Heading → Figures → Heading → Figures → List ℕ
-table_text first f second g = heads_text ++ column_text 2600 first f ++ column_text 6000 second g
+unfoldable pub table_text : Figures → Figures → List ℕ
+table_text first second = heads_text ++ column_text 2600 first ++ column_text 6000 second

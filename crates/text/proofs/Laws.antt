@@ -58,10 +58,10 @@ lines_same f g zero e = refl
 lines_same f g (suc v) e = rw (lines_same f g v (λ i h. e i (omega arith)), e v (omega arith))
 
 module _ {A : Type 0} (o : Outcome A) (text : A → List ℕ) where
-  pub printed-refused : (n : ℕ) → o ≡ refused n → printed o text ≡ refusal_line n
+  pub printed_refused : (n : ℕ) → o ≡ refused n → printed o text ≡ refusal_line n
   unfolding printed
-  printed-refused n e = ap (λ (p : Outcome A). printed p text) e
+  printed_refused n e = ap (λ (p : Outcome A). printed p text) e
 
-  pub printed-accepted : (x : A) → o ≡ accepted x → printed o text ≡ text x
+  pub printed_accepted : (x : A) → o ≡ accepted x → printed o text ≡ text x
   unfolding printed
-  printed-accepted x e = ap (λ (p : Outcome A). printed p text) e
+  printed_accepted x e = ap (λ (p : Outcome A). printed p text) e

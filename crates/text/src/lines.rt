@@ -1,6 +1,6 @@
 // The lines of answers: the gain at an azimuth with its kind, or a refusal's number.
 ghost use Rattle.std.specs.Prelude.{◌≡◌, ◌+◌, ◌≤◌, ◌<◌, length};
-ghost use Rattle.words.specs.Writing.{Wrote};
+ghost use Rattle.words.specs.Writing.{Put};
 ghost use Rattle.answers.specs.Outcome.{number, outcome_as};
 ghost use Rattle.antenna.specs.Gain.{told};
 ghost use Rattle.text.specs.Lines.{kind_name, line, gain_line, refusal_line};
@@ -9,12 +9,13 @@ use answers::{Kind, Refusal};
 use antenna::gain::Gain;
 use numeric::bits::bits_of;
 use words::ascii::{push_decimal, push_hexadecimal};
-use words::bytes::{push, push_bytes};
+use words::page::Page;
 
 // The name of a kind.
 #[tactic(auto, unfolding(crate::specs::Lines::kind_name))]
 pub fn kind_name(kind: Kind) -> &'static [u8]
-    ensures { result.now ≡ kind_name kind }
+    ensures value { result.now ≡ kind_name kind }
+    ensures upper_bound { length result.now ≤ 7 }
 {
     match kind {
         Kind::Level => b"level",
@@ -24,36 +25,38 @@ pub fn kind_name(kind: Kind) -> &'static [u8]
 }
 
 // Azimuth, the number's bits and the name of its kind.
-fn push_line(out: &mut [u8], at: usize, azimuth: u32, x: f32, kind: Kind) -> usize
-    requires { (at + 21 ≤ length out.old) × (azimuth < 1000) }
-    ensures { Wrote out.old at (line azimuth x (kind_name kind)) out.new result }
+#[tactic(auto, unfolding(crate::specs::Lines::line))]
+fn push_line<const N: usize>(page: &mut Page<N>, azimuth: u32, x: f32, kind: Kind)
+    requires { (length page.old + 21 ≤ N) × (azimuth < 1000) }
+    ensures { Put 21 page.old (line azimuth x (kind_name kind)) page.new }
 {
-    let after_azimuth = push_decimal(out, at, azimuth);
-    let number_at = push(out, after_azimuth, b' ');
-    let after_number = push_hexadecimal(out, number_at, bits_of(x));
-    let kind_at = push(out, after_number, b' ');
-    let after_kind = push_bytes(out, kind_at, kind_name(kind));
-    push(out, after_kind, b'\n')
+    push_decimal(page, azimuth);
+    page.push(b' ');
+    push_hexadecimal(page, bits_of(x));
+    page.push(b' ');
+    page.push_bytes(kind_name(kind));
+    page.push(b'\n');
 }
 
 // Inner step: the line of a refusal.
-pub fn push_refusal(out: &mut [u8], at: usize, refusal: Refusal) -> usize
-    requires { at + 12 ≤ length out.old }
-    ensures { Wrote out.old at (refusal_line (number refusal)) out.new result }
+#[tactic(auto, unfolding(crate::specs::Lines::refusal_line))]
+pub fn push_refusal<const N: usize>(page: &mut Page<N>, refusal: Refusal)
+    requires { length page.old + 12 ≤ N }
+    ensures { Put 12 page.old (refusal_line (number refusal)) page.new }
 {
-    let number_at = push_bytes(out, at, b"refused ");
-    let after_number = push_decimal(out, number_at, u8::from(refusal) as u32);
-    push(out, after_number, b'\n')
+    page.push_bytes(b"refused ");
+    push_decimal(page, u8::from(refusal) as u32);
+    page.push(b'\n');
 }
 
 // Inner step: the line of the answer at an azimuth.
 #[tactic(auto, unfolding(crate::specs::Lines::gain_line, crate::specs::Lines::printed))]
-pub fn push_gain(out: &mut [u8], at: usize, azimuth: u32, answer: Result<Gain, Refusal>) -> usize
-    requires { (at + 21 ≤ length out.old) × (azimuth < 1000) }
-    ensures { Wrote out.old at (gain_line azimuth (outcome_as told answer)) out.new result }
+pub fn push_gain<const N: usize>(page: &mut Page<N>, azimuth: u32, answer: Result<Gain, Refusal>)
+    requires { (length page.old + 21 ≤ N) × (azimuth < 1000) }
+    ensures { Put 21 page.old (gain_line azimuth (outcome_as told answer)) page.new }
 {
     match answer {
-        Ok(g) => push_line(out, at, azimuth, g.number, g.kind),
-        Err(r) => push_refusal(out, at, r),
+        Ok(g) => push_line(page, azimuth, g.number, g.kind),
+        Err(r) => push_refusal(page, r),
     }
 }

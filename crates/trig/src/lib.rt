@@ -6,6 +6,7 @@ ghost use Rattle.std.specs.Prelude.{◌≡◌};
 ghost use Rattle.trig.specs.Trig.{trig_tables};
 
 use model::record::Trig;
+use std::array;
 
 const P1: f32 = 3.1415927;
 
@@ -13,18 +14,11 @@ const P1: f32 = 3.1415927;
 const Q1: f32 = P1 / 180.0;
 
 // Inner step of set-up. The source's ends stay: 90.05 and 90.105 degrees for 90, and 0.005 radians for 0.
-#[tactic(auto, unfolding(floats::specs::Filled::filled_to, crate::specs::Trig::trig_tables))]
 pub fn trigfun() -> Trig
     ensures { result ≡ trig_tables }
 {
-    let mut a = [0.0f32; 91];
-    let mut b = [0.0f32; 91];
-    for z in 0..91u16 {
-        let x = z as f32 * Q1;
-        let i = z as usize;
-        a[i] = sine::sin(x);
-        b[i] = sine::cos(x);
-    }
+    let mut a: [f32; 91] = array::from_fn(|z| sine::sin(z as f32 * Q1));
+    let mut b: [f32; 91] = array::from_fn(|z| sine::cos(z as f32 * Q1));
     a[90] = sine::sin(90.05 * Q1);
     b[90] = sine::cos(90.105 * Q1);
     b[0] = sine::cos(0.005);

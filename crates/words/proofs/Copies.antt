@@ -1,13 +1,12 @@
 -- Loops that copy a list, element by element: what stands there after i turns, after one more, and after all. Assumes nothing.
 use mathlib.Core.Path.{◌≡◌, sym, ap, ◌∙◌}
-use mathlib.Core.List.{List, ◌++◌, append-nil, map}
+use mathlib.Core.List.{List, map}
 use Prim.Native.Nat.{ℕ, ◌+◌, ◌<◌}
 use native.Mathlib.Nat.{zero-add}
 use native.Mathlib.Numerals.{add-one}
 use native.Mathlib.Omega.{arith}
-use lib.ListN.{length, drop, set, get_or, length-drop, length-map, get_or-map, drop_of_length-le}
-use lib.Seq.{paste, paste-zero, paste-suc, get_or-drop}
-use Rattle.words.specs.Patterns.{part}
+use lib.ListN.{length, drop, set, get_or, length-drop, length-map, get_or-map}
+use lib.Seq.{paste, paste-suc, get_or-drop}
 use Rattle.words.specs.Laid.{laid}
 use Rattle.words.proofs.Laid.{laid_pasted}
 
@@ -16,19 +15,12 @@ module _ {A : Type 0} (out l : List A) (at : ℕ) where
   abbrev pub copied : ℕ → List A
   copied i = paste out 0 (drop at l) i
 
-  pub copied_none : out ≡ copied 0
-  copied_none = paste-zero out 0 (drop at l)
-
   pub copied_more : (i : ℕ) (d : A) → i < length out → at + i < length l → set (copied i) i (get_or l (at + i) d) ≡ copied (i + 1)
   copied_more i d ho hl =
       let room : 0 + i < length out = omega arith in
       let read : i < length (drop at l) = omega (arith, length-drop at l) in
       rw (add-one, ← get_or-drop at l i d)
       (ap (λ (k : ℕ). set (copied i) k (get_or (drop at l) i d)) (sym (zero-add i)) ∙ paste-suc out 0 (drop at l) i d room read)
-
-  pub copied_all : (i : ℕ) → i ≡ length out → copied i ≡ part l at i
-  copied_all i e =
-      ap (λ (r : List A). part l at i ++ r) (drop_of_length-le out {i = 0 + i} (omega arith)) ∙ append-nil (part l at i)
 
 -- words made of the elements of xs over those of out
 module _ {A : Type 0} (word : A → ℕ) (out : List ℕ) (at : ℕ) (xs : List A) where

@@ -88,9 +88,9 @@ digit_at B k r n =
     ap (λ (l : List ℕ). get_or l k 0) (digits-add B (suc k) r n ∙ append_assoc (digits B k (q / B)) (q % B ∷ []) (digits B r n))
     ∙ get_or_at (digits B k (q / B)) (q % B) (digits B r n) 0 k (length_digits B k (q / B))
 
-pub digits-none : (B n : ℕ) → digits B 0 n ≡ []
+pub digits_none : (B n : ℕ) → digits B 0 n ≡ []
 unfolding digits
-digits-none B n = refl
+digits_none B n = refl
 
 below_append : {B : ℕ} {xs ys : List ℕ} → Below B xs → Below B ys → Below B (xs ++ ys)
 below_append none q = q
@@ -114,7 +114,7 @@ below-drop (suc k) (more h r) = below-drop k r
 -- the two round trips between a number and its digits
 pub read-digits : (B k : ℕ) {xs : List ℕ} → Below B xs → length xs ≡ k → (n : ℕ) → digits B k (after B n xs) ≡ xs
 read-digits B k {xs} r e n =
-    ap (λ (i : ℕ). digits B i (after B n xs)) (sym e ∙ sym (zero-add (length xs))) ∙ digits-after B r 0 n ∙ ap (λ (l : List ℕ). l ++ xs) (digits-none B n)
+    ap (λ (i : ℕ). digits B i (after B n xs)) (sym e ∙ sym (zero-add (length xs))) ∙ digits-after B r 0 n ∙ ap (λ (l : List ℕ). l ++ xs) (digits_none B n)
 
 pub write_digits : (B k n : ℕ) → n < B ^ k → after B 0 (digits B k n) ≡ n
 write_digits B k n h = ap (λ (q : ℕ). after B q (digits B k n)) (sym (div-eq_of_lt h)) ∙ after-digits B k n

@@ -43,9 +43,9 @@ module _ {A : Type 0} where
       ∙ ap (λ (x : List A). x ++ drop (k + length s + length t) l) (append_assoc (take k l) s t)
       ∙ ap (λ (i : ℕ). take k l ++ (s ++ t) ++ drop i l) (add_assoc k (length s) (length t) ∙ ap (λ (i : ℕ). k + i) (sym (length-append s t)))
 
-  pub take-laid : (l : List A) (k : ℕ) (s : List A) (n : ℕ) → n ≡ k + length s → k ≤ length l → take n (laid l k s) ≡ take k l ++ s
+  pub take_laid : (l : List A) (k : ℕ) (s : List A) (n : ℕ) → n ≡ k + length s → k ≤ length l → take n (laid l k s) ≡ take k l ++ s
   unfolding laid
-  take-laid l k s n e h =
+  take_laid l k s n e h =
       take_at (take k l ++ s) (drop (k + length s) l) n (length-append (take k l) s ∙ omega (arith, length-take-le k l h))
 
   pub laid-length : (l : List A) (k : ℕ) (s : List A) → k + length s ≤ length l → length (laid l k s) ≡ length l

@@ -1,10 +1,10 @@
 // Numbers by their digits, in ASCII.
 ghost use Rattle.std.specs.Prelude.{◌≡◌, map, ◌+◌, ◌≤◌, ◌<◌, length};
 ghost use Rattle.words.specs.Digits.{digits};
-ghost use Rattle.words.specs.Writing.{Wrote};
+ghost use Rattle.words.specs.Writing.{Put};
 ghost use Rattle.words.specs.Numbers.{character, decimal, hexadecimal};
 
-use crate::bytes::push;
+use crate::page::Page;
 
 fn digit(d: u32) -> u8
     requires { d < 16 }
@@ -18,35 +18,36 @@ fn digit(d: u32) -> u8
 }
 
 // The last k digits of n. Those before the last are the digits of n / base, with one fewer left.
-fn push_digits(out: &mut [u8], at: usize, n: u32, base: u32, k: usize) -> usize
-    requires { (at + k ≤ length out.old) × (0 < base) × (base ≤ 16) }
-    ensures { Wrote out.old at (map character (digits base k n)) out.new result }
+fn push_digits<const N: usize>(page: &mut Page<N>, n: u32, base: u32, k: usize)
+    requires { (length page.old + k ≤ N) × (0 < base) × (base ≤ 16) }
+    ensures { Put k page.old (map character (digits base k n)) page.new }
 {
-    if k == 0 {
-        return at;
+    if k > 0 {
+        push_digits(page, n / base, base, k - 1);
+        page.push(digit(n % base));
     }
-    let next = push_digits(out, at, n / base, base, k - 1);
-    push(out, next, digit(n % base))
 }
 
 // A number below 1,000, with no leading zero.
-pub fn push_decimal(out: &mut [u8], at: usize, n: u32) -> usize
-    requires { (at + 3 ≤ length out.old) × (n < 1000) }
-    ensures { Wrote out.old at (decimal n) out.new result }
+#[tactic(auto, unfolding(crate::specs::Numbers::decimal))]
+pub fn push_decimal<const N: usize>(page: &mut Page<N>, n: u32)
+    requires { (length page.old + 3 ≤ N) × (n < 1000) }
+    ensures { Put 3 page.old (decimal n) page.new }
 {
     if n < 10 {
-        return push_digits(out, at, n, 10, 1);
+        push_digits(page, n, 10, 1);
+    } else if n < 100 {
+        push_digits(page, n, 10, 2);
+    } else {
+        push_digits(page, n, 10, 3);
     }
-    if n < 100 {
-        return push_digits(out, at, n, 10, 2);
-    }
-    push_digits(out, at, n, 10, 3)
 }
 
 // Eight upper-case hexadecimal digits.
-pub fn push_hexadecimal(out: &mut [u8], at: usize, n: u32) -> usize
-    requires { at + 8 ≤ length out.old }
-    ensures { Wrote out.old at (hexadecimal n) out.new result }
+#[tactic(auto, unfolding(crate::specs::Numbers::hexadecimal))]
+pub fn push_hexadecimal<const N: usize>(page: &mut Page<N>, n: u32)
+    requires { length page.old + 8 ≤ N }
+    ensures { Put 8 page.old (hexadecimal n) page.new }
 {
-    push_digits(out, at, n, 16, 8)
+    push_digits(page, n, 16, 8);
 }

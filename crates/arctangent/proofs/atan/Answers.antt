@@ -21,7 +21,7 @@ number : (c : Else-a) → T (not (is_nan c.before.args.a))
 number c = no_nan c.before.args.a c.if-a.false
 
 pub atan_of_size-requires : goal.atan_of_size-requires
-atan_of_size-requires c = rw c.abs.ensures (mag-unsigned c.before.before.args.a (number c.before))
+atan_of_size-requires c = rw c.abs.ensures.value (mag-unsigned c.before.before.args.a (number c.before))
 
 by_sign : (a : Float) → T (not (is_nan a)) → T (unsigned (atan_of_size (mag a))) → with_sign (atan_of_size (mag a)) (sign_bit a) ≡ atan_of a
 unfolding atan_of
@@ -34,7 +34,7 @@ pub returns : goal.returns
 returns c =
     let d = c.before.before.before in
     let a = d.before.before.args.a in
-    let y : c.before.before.atan_of_size.result ≡ atan_of_size (mag a) = c.before.before.atan_of_size.ensures.0 ∙ ap atan_of_size d.abs.ensures in
+    let y : c.before.before.atan_of_size.result ≡ atan_of_size (mag a) = c.before.before.atan_of_size.ensures.0 ∙ ap atan_of_size d.abs.ensures.value in
     c.with_sign.ensures
     ∙ (λ i. with_sign (y i) (c.before.is_sign_negative.ensures i))
     ∙ by_sign a (number d.before) (subst (λ (z : Float). T (unsigned z)) y c.before.before.atan_of_size.ensures.1)

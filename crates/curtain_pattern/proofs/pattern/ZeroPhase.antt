@@ -13,9 +13,9 @@ module _ (x : Float) (h : T (fits binary32 x)) (e : to_bits binary32 x ≡ 0) wh
   no_bits : +0 ≡ x
   no_bits = sym (ap (of_bits binary32) e) ∙ of_bits-to_bits binary32 x h
 
-  pub cosine-is-one : one ≡ cosine x
-  cosine-is-one = sym cos_zero ∙ ap cosine no_bits
+  pub cosine_is_one : one ≡ cosine x
+  cosine_is_one = sym cos_zero ∙ ap cosine no_bits
 
-  pub sine-is-zero : +0 ≡ sine x
+  pub sine_is_zero : +0 ≡ sine x
   unfolding of_bits
-  sine-is-zero = sym sine-zero ∙ ap sine no_bits
+  sine_is_zero = sym sine-zero ∙ ap sine no_bits

@@ -5,4 +5,4 @@ use Rattle.figures.specs.Figures.{leads_at, count_to}
 use Rattle.figures.proofs.leads.Given as goal
 
 abbrev pub invariant-loop-v : goal.invariant-loop-v
-invariant-loop-v l = (l.n ≡ count_to (leads_at l.first l.kinds l.second) l.v) × (l.n ≤ l.v)
+invariant-loop-v l = (l.n ≡ count_to (leads_at l.first.numbers l.first.kinds l.second.numbers) l.v) × (l.n ≤ l.v)

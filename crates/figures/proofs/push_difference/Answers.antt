@@ -6,9 +6,7 @@ use native.Mathlib.Omega.{arith}
 use lib.IntN.{pos}
 use Rattle.quoted.specs.Quoted.{quoted}
 use Rattle.hundredths.specs.Decimals.{two_decimals}
-use Rattle.words.proofs.Writing.{then}
-use Rattle.labels.proofs.Put.{of, upto, next-to}
-use Rattle.labels.proofs.Lengths.{two-decimals-length}
+use Rattle.words.proofs.Writing.{joined, at_most}
 use Rattle.figures.specs.Figures.{difference_of, difference}
 use Rattle.figures.proofs.Laws.{difference-from, difference_below}
 use Rattle.figures.proofs.push_difference.Goals as goal
@@ -20,18 +18,12 @@ signed a b h = let e : suc (b - suc a) ≡ b - a = omega arith in rw (difference
 
 pub returns-then-b-a : goal.returns-then-b-a
 unfolding difference
-returns-then-b-a c =
-    let number = c in
-    let words = number in
-    let a = words.args in
-    next-to (of words.push_bytes-number_at.ensures) (upto 14 (rw (difference-from a.a a.b (omega arith)) number.push_hundredths.ensures) (two-decimals-length _)) (omega arith)
+returns-then-b-a g c =
+    let a = c.args in
+    rw (difference-from a.a a.b (omega arith)) (at_most (joined c.push_bytes.ensures c.push_hundredths.ensures) (omega arith))
 
-pub returns : goal.returns
+pub returns-else-b-a : goal.returns-else-b-a
 unfolding difference
-returns c =
-    let size = c in
-    let sign = size in
-    let words = sign in
-    let a = words.args in
-    let w = then sign.push-size_at.ensures size.push_hundredths-2.ensures (omega arith) in
-    next-to (of words.push_bytes-number_at.ensures) (upto 14 (rw (signed a.a a.b (omega arith)) w) (two-decimals-length _)) (omega arith)
+returns-else-b-a g c =
+    let a = c.args in
+    rw (signed a.a a.b (omega arith)) (at_most (joined c.push_bytes.ensures (joined c.push.ensures c.push_hundredths-else-b-a.ensures)) (omega arith))

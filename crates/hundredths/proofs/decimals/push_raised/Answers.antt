@@ -2,23 +2,15 @@
 use mathlib.Core.Path.{◌≡◌}
 use Prim.Native.Nat.{suc, ◌-◌}
 use native.Mathlib.Omega.{arith}
-use Rattle.words.proofs.Writing.{then}
+use Rattle.words.proofs.Writing.{joined}
 use Rattle.quoted.specs.Quoted.{quoted}
 use Rattle.hundredths.specs.Decimals.{two_decimals}
-use Rattle.hundredths.proofs.Raised.{lowered-below, lowered-from}
+use Rattle.hundredths.proofs.Raised.{lowered_below}
 use Rattle.hundredths.proofs.decimals.push_raised.Goals as goal
 
-pub returns-then-raised-ge100000 : goal.returns-then-raised-ge100000
-returns-then-raised-ge100000 c =
-    let s = c in
-    rw (lowered-from s.args.raised (omega arith)) c.push_hundredths.ensures
-
-pub returns : goal.returns
+pub returns-else-raised-ge100000 : goal.returns-else-raised-ge100000
 unfolding two_decimals quoted
-returns c =
-    let size = c in
-    let sign = size in
-    let s = sign in
-    let r = s.args.raised in
+returns-else-raised-ge100000 g c =
+    let r = c.args.raised in
     let e : suc (99999 - r) ≡ 100000 - r = omega arith in
-    rw (lowered-below r (omega arith), e) (then sign.push-size.ensures size.push_hundredths-2.ensures (omega arith))
+    rw (lowered_below r (omega arith), e) (joined c.push.ensures c.push_hundredths-else-raised-ge100000.ensures)

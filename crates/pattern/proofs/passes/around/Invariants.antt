@@ -4,4 +4,4 @@ use Rattle.pattern.specs.Passes.{gains_around}
 use Rattle.pattern.proofs.passes.around.Given as goal
 
 abbrev pub invariant-loop-v : goal.invariant-loop-v
-invariant-loop-v l = l.out ≡ gains_around l.m l.table l.u l.v
+invariant-loop-v l = l.out ≡ gains_around l.c.model.now l.c.table.now l.u l.v

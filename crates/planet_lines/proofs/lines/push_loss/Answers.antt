@@ -1,37 +1,28 @@
--- `planet_lines::lines::push_loss` meets its contract: its parts, one after the other, in 12 bytes at most. Assumes nothing.
+-- `planet_lines::lines::push_loss` meets its contract: its angle is 3 bytes at most, its loss 7. Assumes nothing.
+use mathlib.Core.Path.{refl}
 use native.Mathlib.Omega.{arith}
+use Rattle.std.proofs.Common.{rules}
 use Rattle.quoted.specs.Quoted.{quoted}
-use Rattle.words.proofs.Writing.{then}
+use Rattle.words.proofs.Writing.{put_four, shorter}
 use Rattle.hundredths.proofs.Text.{loss_length}
 use Rattle.planet_lines.specs.Text.{loss_line}
 use Rattle.planet_lines.proofs.Lengths.{angle-length}
 use Rattle.planet_lines.proofs.lines.push_loss.Goals as goal
 
-pub push-loss_at-requires : goal.push-loss_at-requires
-push-loss_at-requires c =
-    let start = c in
-    omega (arith, angle-length start.args.angle start.requires.1)
+pub push_hundredths-requires : goal.push_hundredths-requires
+push_hundredths-requires g c =
+    let angle = shorter c.push_numeral.ensures (angle-length c.args.angle c.requires.1) in
+    (search rules, omega arith)
 
-pub push_hundredths-end-requires : goal.push_hundredths-end-requires
-push_hundredths-end-requires c =
-    let start = c in
-    omega (arith, angle-length start.args.angle start.requires.1)
-
-pub push-requires : goal.push-requires
-push-requires c =
-    let start = c in
-    omega (arith, angle-length start.args.angle start.requires.1, loss_length start.args.loss start.requires.2)
+pub push-requires-2 : goal.push-requires-2
+push-requires-2 g c =
+    let angle = shorter c.push_numeral.ensures (angle-length c.args.angle c.requires.1) in
+    let loss = shorter c.push_hundredths.ensures (loss_length c.args.loss c.requires.2) in
+    (search rules, omega arith)
 
 pub returns : goal.returns
 unfolding loss_line quoted
-returns c =
-    let end = c in
-    let loss = end in
-    let space = loss in
-    let angle = space in
-    let start = angle in
-    let a = angle-length start.args.angle start.requires.1 in
-    let l = loss_length start.args.loss start.requires.2 in
-    let to_space = then angle.push_numeral-space_at.ensures space.push-loss_at.ensures (omega arith) in
-    let to-loss = then to_space loss.push_hundredths-end.ensures (omega arith) in
-    then to-loss end.push.ensures (omega arith)
+returns g c =
+    let angle = shorter c.push_numeral.ensures (angle-length c.args.angle c.requires.1) in
+    let loss = shorter c.push_hundredths.ensures (loss_length c.args.loss c.requires.2) in
+    put_four angle c.push.ensures loss c.push-2.ensures refl (omega arith)

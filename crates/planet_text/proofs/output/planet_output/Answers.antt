@@ -1,12 +1,11 @@
 -- `planet_text::output::planet_output` meets its contract. Assumes nothing.
-use mathlib.Core.Path.{refl, ap}
+use mathlib.Core.Path.{refl}
 use native.Mathlib.Omega.{arith}
 use borrow.Author.Tests.{lt-ltb}
 use lib.ListN.{length}
-use Rattle.answers.specs.Outcome.{number}
-use Rattle.words.proofs.Writing.{wrote_none, within}
+use Rattle.words.proofs.Writing.{wrote_none, within, page_has}
 use Rattle.planet_text.specs.Planet.{output_in}
-use Rattle.planet_text.proofs.Printed.{refusal_short, output_refused, output_written}
+use Rattle.planet_text.proofs.Printed.{output_refused, output_written}
 use Rattle.planet_text.proofs.output.planet_output.Goals as goal
 
 pub returns-then-text-lt8960 : goal.returns-then-text-lt8960
@@ -15,26 +14,15 @@ returns-then-text-lt8960 c =
     let text = c.args.text.now in
     rw (lt-ltb (length text) 8960 c.if-text-lt8960.true) record { text = wrote_none text 0; within = (omega arith, refl) }
 
-pub returns-in-Err : goal.returns-in-Err
-returns-in-Err c =
-    let pushed = c in
-    let told = pushed.in-Err.is in
-    let asked = pushed in
-    let a = asked.args in
-    let said = output_refused a.input.now a.text.now asked.if-text-lt8960.false asked.planet.result _ asked.planet.ensures.answer asked.planet.ensures.text _ told in
-    let w = rw (said.1, said.0) at pushed.push_refusal.ensures in
-    record {
-      text = w;
-      within = within w (omega (arith, refusal_short (number c.in-Err.r), ap length said.0));
-    }
+pub returns-in-Err-clause-text : goal.returns-in-Err-clause-text
+returns-in-Err-clause-text c =
+    let a = c.args in
+    let said = output_refused a.input.now a.text.now c.if-text-lt8960.false c.planet.result _ c.planet.ensures.answer c.planet.ensures.text _ c.in-Err.is in
+    let line = rw c.new-page.ensures at c.push_refusal.ensures in
+    rw ((page_has line).0, said.0, said.1) at c.put_page.ensures
 
 pub returns-in-Ok : goal.returns-in-Ok
 returns-in-Ok c =
-    let told = c.in-Ok.is in
-    let asked = c in
-    let a = asked.args in
-    let w = output_written a.input.now a.text.now asked.if-text-lt8960.false asked.planet.result _ asked.planet.ensures.answer asked.planet.ensures.text _ told in
-    record {
-      text = w.0;
-      within = within w.0 w.1;
-    }
+    let a = c.args in
+    let w = output_written a.input.now a.text.now c.if-text-lt8960.false c.planet.result _ c.planet.ensures.answer c.planet.ensures.text _ c.in-Ok.is in
+    record { text = w.0; within = within w.0 w.1 }

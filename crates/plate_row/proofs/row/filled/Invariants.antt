@@ -6,4 +6,4 @@ use Rattle.plate_row.specs.Row.{row_to}
 use Rattle.plate_row.proofs.row.filled.Given as goal
 
 abbrev pub invariant-loop-v : goal.invariant-loop-v
-invariant-loop-v l = (m : Model) → l.gains ≡ gains_around m l.table l.u l.n → l.out ≡ row_to m l.z6 l.table l.u l.giso l.v
+invariant-loop-v l = (m : Model) → l.gains ≡ gains_around m l.c.table.now l.u l.n → l.out ≡ row_to m l.z6 l.c.table.now l.u l.giso l.v

@@ -5,4 +5,4 @@ use Rattle.search.proofs.gainorm.elevation_pass.Given as goal
 
 abbrev pub invariant-loop-i : goal.invariant-loop-i
 invariant-loop-i l =
-    (l.out ≡ elevations_to l.fn.m l.fn.table l.fn.v l.initial.out l.i) × (l.out.tally.readings ≡ l.initial.out.tally.readings + l.i)
+    (l.out ≡ elevations_to l.fn.c.model.now l.fn.c.table.now l.fn.v l.initial.out l.i) × (l.out.tally.readings ≡ l.initial.out.tally.readings + l.i)

@@ -1,4 +1,4 @@
 use Rattle.words.proofs.ascii.+push_digits.Given as goal
 
 abbrev pub decreases-push_digits : goal.decreases-push_digits
-decreases-push_digits l = l.k
+decreases-push_digits g l = l.k

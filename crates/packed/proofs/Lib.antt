@@ -1,0 +1,2 @@
+-- A part of a list, element by element.
+pub mod Parts
