@@ -43,8 +43,8 @@ fn constants_of(k: [f32; 16]) -> Constants
 }
 
 #[tactic(auto, unfolding(crate::specs::Reading::elements_of))]
-fn elements_of(words: &[u32], fs: &[f32]) -> Elements
-    requires { (length words.now ≡ 998) × (length fs.now ≡ 998) }
+fn elements_of(words: &[u32], fs: &[f32; 998]) -> Elements
+    requires { length words.now ≡ 998 }
     ensures { result ≡ elements_of words.now fs.now }
 {
     Elements {
@@ -60,8 +60,7 @@ fn elements_of(words: &[u32], fs: &[f32]) -> Elements
 }
 
 #[tactic(auto, unfolding(crate::specs::Reading::trig_of))]
-fn trig_of(fs: &[f32]) -> Trig
-    requires { length fs.now ≡ 998 }
+fn trig_of(fs: &[f32; 998]) -> Trig
     ensures { result ≡ trig_of fs.now }
 {
     Trig {
@@ -71,8 +70,7 @@ fn trig_of(fs: &[f32]) -> Trig
 }
 
 #[tactic(auto, unfolding(crate::specs::Reading::ground_of))]
-fn ground_of(fs: &[f32]) -> Ground
-    requires { length fs.now ≡ 998 }
+fn ground_of(fs: &[f32; 998]) -> Ground
     ensures { result ≡ ground_of fs.now }
 {
     Ground {
@@ -98,8 +96,8 @@ fn peak_of(k: [f32; 3]) -> Peak
 
 // The record by its words and by their floats.
 #[tactic(auto, unfolding(crate::specs::Reading::antenna_of))]
-fn antenna_of(words: &[u32], fs: &[f32]) -> Antenna
-    requires { (length words.now ≡ 998) × (length fs.now ≡ 998) }
+fn antenna_of(words: &[u32], fs: &[f32; 998]) -> Antenna
+    requires { length words.now ≡ 998 }
     ensures { result ≡ antenna_of words.now fs.now }
 {
     Antenna {

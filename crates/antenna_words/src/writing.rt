@@ -32,12 +32,6 @@ fn put_pair(out: &mut [u32], at: usize, xs: &[f32], ys: &[f32])
     put_floats(out, at + xs.len(), ys);
 }
 
-fn truth(b: bool) -> u32
-    ensures { result ≡ flag b }
-{
-    if b { 1 } else { 0 }
-}
-
 // The type, whether it is slewed, and the constants.
 fn put_head(out: &mut [u32], iant: u32, slewed: bool, k: Constants)
     requires { length out.old ≡ 998 }
@@ -49,7 +43,7 @@ fn put_head(out: &mut [u32], iant: u32, slewed: bool, k: Constants)
         k.sl, k.costh, k.sinth,
     ];
     out[0] = iant;
-    out[1] = truth(slewed);
+    out[1] = u32::from(slewed);
     put_floats(out, 2, &floats);
 }
 

@@ -1,5 +1,5 @@
 -- What is found first is what a book answers. Assumes nothing.
-use mathlib.Core.Path.{◌≡◌, refl, ap}
+use mathlib.Core.Path.{◌≡◌, refl, sym, ap}
 use Prim.Native.Nat.{ℕ, ◌≤◌, ◌<◌}
 use native.Mathlib.Omega.{arith}
 use mathlib.Core.Bool.{Bool, true, false, cond, not, ◌||◌, true≢false}
@@ -10,7 +10,9 @@ use lib.ListN.{length}
 use Rattle.answers.specs.Refusals.{GAP, OVERLAP}
 use Rattle.bandbook.specs.Answers.{accepted, refused_at}
 use Rattle.bandbook.specs.declared.rows.Row.{Row}
-use Rattle.std.proofs.Common.{Some, None}
+use Rattle.std.proofs.Common.{Option, Some, None}
+use Rattle.std.specs.Option.{MatchOption}
+use native.Mathlib.Decide.{dec_le}
 use Rattle.bandbook.specs.Rows.{row, row_ok, bad_row}
 use Rattle.bandbook.specs.Coverage.{covering}
 use Rattle.bandbook.specs.Book.{first_bad_row, bad_khz, lowest_bad_khz, khz_fault, khz_answer}
@@ -52,3 +54,18 @@ module _ (rows : List Row) where
   pub no_khz_found : NoneTo (bad_khz rows) 2000 30000 → khz_answer rows ≡ accepted 0
   unfolding lowest_bad_khz khz_fault
   no_khz_found none = ap (khz_fault rows) (none_found (bad_khz rows) 28000 2000 none)
+
+  -- what `find` over the rows answers, and that it fits
+  abbrev pub FoundBad : Option ℕ → Type 0
+  FoundBad r = MatchOption r ((k : ℕ) → 0 ≤ k → k < length rows → bad_row rows k ≡ false) (λ i. (0 ≤ i) × (i < length rows) × (bad_row rows i ≡ true) × NoneTo (bad_row rows) 0 i)
+
+  pub found_bad : (r : Option ℕ) → FoundBad r → r ≡ first_bad_row rows
+  found_bad None m = sym (no_row_found m)
+  found_bad (Some i) m = sym (row-found i m.1 m.3 m.2)
+
+  pub low_bad : (i : ℕ) → FoundBad (Some i) → i ≤ 64
+  low_bad i m = go (dec_le i 64)
+    where
+      go : Dec (i ≤ 64) → i ≤ 64
+      go (yes h) = h
+      go (no n) = let low = (row-good 64 (m.3 64 (omega arith) (omega arith))).0 in absurd (omega (arith, low))

@@ -1,5 +1,6 @@
 -- Laws that several proofs cite: one file for each subject.
 pub mod RowWords
+pub mod Chunks
 pub mod Least
 pub mod Steady
 pub mod Faults

@@ -26,3 +26,7 @@ row_words (a ∷ b ∷ c ∷ rest) (suc i) h =
     let e₁ : 3 * suc i + 1 ≡ suc (suc (suc (3 * i + 1))) = omega arith in
     let e₂ : 3 * suc i + 2 ≡ suc (suc (suc (3 * i + 2))) = omega arith in
     rw (e₁, e₂, e) (row_words rest i (omega arith))
+
+-- the row that three words make
+pub row_of_three : (words : List ℕ) → length words ≡ 3 → row (rows_in words) 0 ≡ record { low = get_or words 0 0; high = get_or words 1 0; id = get_or words 2 0 }
+row_of_three words h = row_words words 0 (omega arith)

@@ -8,7 +8,7 @@ ghost use Rattle.bandbook.specs.Answers.{judged};
 ghost use Rattle.bandbook.specs.Book.{khz_answer};
 
 use crate::Refused;
-use crate::rows::{FROM_KHZ, Row, TO_KHZ, row_at};
+use crate::rows::{FROM_KHZ, Row, TO_KHZ, row_of};
 use answers::Refusal;
 
 // From some kHz up to, not including, `end`: this many rows cover each.
@@ -50,8 +50,8 @@ fn stretch_from(words: &[u32], khz: u32) -> Stretch
 {
     let mut rows: usize = 0;
     let mut end: u32 = TO_KHZ;
-    for i in 0..words.len() / 3 {
-        let row = row_at(words, i);
+    for words in words.chunks_exact(3) {
+        let row = row_of(words);
         rows += count_one(khz, row);
         end = nearer_edge(khz, row.high, nearer_edge(khz, row.low, end));
     }
@@ -81,11 +81,11 @@ pub(crate) fn check_khz(words: &[u32]) -> Result<(), Refused>
 pub(crate) fn station_at(words: &[u32], khz: u32) -> u32
     ensures { result ≡ station_at (rows_in words.now) khz }
 {
-    for i in 0..words.len() / 3 {
-        let row = row_at(words, i);
-        if is_covered(khz, row) {
-            return row.id;
-        }
+    let row = words
+        .chunks_exact(3)
+        .find(|words| is_covered(khz, row_of(words)));
+    match row {
+        Some(words) => row_of(words).id,
+        None => 0,
     }
-    0
 }

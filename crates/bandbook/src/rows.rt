@@ -32,6 +32,19 @@ pub(crate) fn row_at(words: &[u32], i: usize) -> Row
     }
 }
 
+// The row of three words.
+#[tactic(auto, unfolding(crate::specs::Rows::rows_in), using(crate::proofs::RowWords::row_of_three))]
+pub(crate) fn row_of(words: &[u32]) -> Row
+    requires { length words.now ≡ 3 }
+    ensures { result ≡ row (rows_in words.now) 0 }
+{
+    Row {
+        low: words[0],
+        high: words[1],
+        id: words[2],
+    }
+}
+
 #[tactic(auto, unfolding(crate::specs::Rows::row_ok))]
 fn row_ok(row: Row) -> bool
     ensures { result ≡ row_ok row }
@@ -55,10 +68,6 @@ fn bad_row(words: &[u32], i: usize) -> bool
 pub(crate) fn first_bad_row(words: &[u32]) -> Option<u32>
     ensures { result ≡ first_bad_row (rows_in words.now) }
 {
-    for i in 0..words.len() / 3 {
-        if bad_row(words, i) {
-            return Some(i as u32);
-        }
-    }
-    None
+    let i = (0..words.len() / 3).find(|&i| bad_row(words, i))?;
+    Some(i as u32)
 }

@@ -1,6 +1,6 @@
 -- What a join and a leave do to a board's words. Assumes nothing.
 use mathlib.Core.Path.{◌≡◌, refl, sym, ap, ◌∙◌}
-use mathlib.Core.Bool.{Bool, true, false, cond, ◌||◌, false≢true}
+use mathlib.Core.Bool.{Bool, true, false, cond, false≢true}
 use mathlib.Core.List.{List, [], ◌∷◌, ◌++◌, append_assoc, append-nil}
 use Prim.Native.Nat.{ℕ, zero, suc, ◌+◌, ◌-◌, ◌*◌, ◌≤◌, ◌<◌}
 use native.Mathlib.Nat.{zero-sub, sub-zero, suc-sub-suc, suc-add}
@@ -16,6 +16,9 @@ use Rattle.board_air.specs.Stations.{Station}
 use Rattle.board_air.specs.Runs.{on, without}
 use Rattle.board_air.specs.Words.{air_size, place_of, places_of, air_of, stations_ok}
 use Rattle.board_air.specs.Steps.{slot_of}
+use Rattle.std.proofs.Common.{Option, Some, None}
+use Rattle.std.specs.Option.{is_some}
+use Rattle.board_air.proofs.Slots.{slot_some}
 use Rattle.board_air.proofs.Tests.{neither}
 use Rattle.board_air.proofs.Each.{Each, none, more}
 use Rattle.board_air.proofs.Good.{own}
@@ -67,38 +70,47 @@ record Parted (ss : List Station) (slot : ℕ) (rest : List Station) : Type 0 wh
   fewer : suc (length rest) ≡ length ss
   places : cut (places_of ss) (361 * slot) ≡ places_of rest
 
-parted : (id : ℕ) {ss : List Station} → Each Row ss → stations_ok ss ≡ true → on id ss ≡ true → Parted ss (slot_of id ss) (without id ss)
+parted : (id : ℕ) {ss : List Station} → Each Row ss → stations_ok ss ≡ true → {slot : ℕ} → slot_of id ss ≡ Some slot → Parted ss slot (without id ss)
 unfolding on without slot_of places_of
-parted id none ok h = absurd (false≢true h)
-parted id (more {s} {ss} r rs) ok h = go (eqb s.id id) refl (parted id rs (own s ss ok).0) h
+parted id none ok {slot} h = absurd (no-slot h)
+  where
+    no-slot : ◌≡◌ {A = Option ℕ} None (Some slot) → ⊥
+    no-slot e = false≢true (ap is_some e)
+parted id (more {s} {ss} r rs) ok {slot} h = go (eqb s.id id) (on id ss) refl refl (parted id rs (own s ss ok).0) h
   where
     size : length (places_of ss) ≡ 361 * length ss
     size = places-length rs
 
-    go : (t : Bool) → eqb s.id id ≡ t → (on id ss ≡ true → Parted ss (slot_of id ss) (without id ss)) → (t || on id ss) ≡ true
-        → Parted (s ∷ ss) (cond t (length ss) (slot_of id ss)) (cond t (without id ss) (s ∷ without id ss))
-    go true e below h =
-        let same = without-none id ss (ap (λ (i : ℕ). on i ss) (sym (eqb-true s.id id e)) ∙ (own s ss ok).1.new) in
+    go : (t u : Bool) → eqb s.id id ≡ t → on id ss ≡ u → (slot_of id ss ≡ Some slot → Parted ss slot (without id ss))
+        → cond u (slot_of id ss) (cond t (Some (length ss)) None) ≡ Some slot
+        → Parted (s ∷ ss) slot (cond t (without id ss) (s ∷ without id ss))
+    go true true e f below h = absurd (false≢true (sym (ap (λ (i : ℕ). on i ss) (sym (eqb-true s.id id e)) ∙ (own s ss ok).1.new) ∙ f))
+    go true false here f below h =
+        let same = without-none id ss f in
         let end : length (places_of ss ++ place_of s) ≤ 361 * length ss + 361 = rw length-append (omega (arith, size, place-length s r.whole)) in
+        let last : Parted (s ∷ ss) (length ss) (without id ss) =
         record {
           inside = omega arith;
           fewer = ap (λ (l : List Station). suc (length l)) same;
           places = rw (take_at (places_of ss) (place_of s) (361 * length ss) size, drop_of_length-le (places_of ss ++ place_of s) {i = 361 * length ss + 361} end, append-nil, same);
-        }
-    go false e below h =
+        } in
+        let e : length ss ≡ slot = cc in
+        rw e at last
+    go false false e f below h = absurd (false≢true (ap is_some h))
+    go false true e f below h =
         let p = below h in
-        let room : 361 * slot_of id ss + 361 ≤ length (places_of ss) = omega (arith, size, p.inside) in
+        let room : 361 * slot + 361 ≤ length (places_of ss) = omega (arith, size, p.inside) in
         record {
           inside = omega (arith, p.inside);
           fewer = ap suc p.fewer;
-          places = cut_append (places_of ss) (place_of s) (361 * slot_of id ss) room ∙ ap (λ (l : List ℕ). l ++ place_of s) p.places;
+          places = cut_append (places_of ss) (place_of s) (361 * slot) room ∙ ap (λ (l : List ℕ). l ++ place_of s) p.places;
         }
 
-pub slot-inside : (id : ℕ) {ss : List Station} → Each Row ss → stations_ok ss ≡ true → on id ss ≡ true → slot_of id ss < length ss
+pub slot-inside : (id : ℕ) {ss : List Station} → Each Row ss → stations_ok ss ≡ true → {slot : ℕ} → slot_of id ss ≡ Some slot → slot < length ss
 slot-inside id rows ok h = (parted id rows ok h).inside
 
 pub one_gone : (id : ℕ) {ss : List Station} → Each Row ss → stations_ok ss ≡ true → on id ss ≡ true → suc (length (without id ss)) ≡ length ss
-one_gone id rows ok h = (parted id rows ok h).fewer
+one_gone id {ss} rows ok h = (parted id rows ok (slot_some id ss h).1).fewer
 
 cut_cons : (n : ℕ) (l : List ℕ) (p : ℕ) → cut (n ∷ l) (suc p) ≡ n ∷ cut l p
 cut_cons n l p = rw (suc-add p 361)
@@ -117,13 +129,12 @@ closed words at m size h e =
     laid_end (laid words at moved) 5416 (replicate m 0) (omega (arith, laid-length words at moved room, length-replicate {A = ℕ} m 0))
     ∙ ap (λ (r : List ℕ). r ++ replicate m 0) (take_laid words at moved 5416 (omega (arith, n)) (omega arith))
 
-pub left : (id m : ℕ) {ss : List Station} → OnAir ss → on id ss ≡ true → m ≡ 361
-    → let at = 1 + 361 * slot_of id ss in
+pub left : (id m : ℕ) {ss : List Station} → OnAir ss → {slot : ℕ} → slot_of id ss ≡ Some slot → m ≡ 361
+    → let at = 1 + 361 * slot in
     set (laid (laid (air_of ss) at (drop (at + 361) (air_of ss))) 5416 (replicate m 0)) 0 (length ss - 1) ≡ air_of (without id ss)
 unfolding air_of
-left id m {ss} k h e =
+left id m {ss} k {slot} h e =
     let n = length ss in
-    let slot = slot_of id ss in
     let rest = without id ss in
     let zeros = replicate {A = ℕ} (361 * (16 - n)) 0 in
     let p = parted id k.rows k.ok h in

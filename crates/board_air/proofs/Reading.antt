@@ -1,6 +1,7 @@
 -- What is read in a board's words. Assumes nothing.
 use mathlib.Core.Path.{◌≡◌, refl, sym, ap, ◌∙◌}
-use mathlib.Core.List.{List, [], ◌∷◌}
+use mathlib.Core.Bool.{Bool, true, false, ◌&&◌}
+use mathlib.Core.List.{List, [], ◌∷◌, map}
 use Prim.Native.Nat.{ℕ, zero, suc, ◌+◌, ◌≤◌, ◌<◌}
 use native.Mathlib.Nat.{le_of_suc-le-suc, le_refl}
 use native.Mathlib.Numerals.{add-one}
@@ -10,11 +11,12 @@ use lib.Seq.{take-length, get_or-take, get_or-drop}
 use lib.Dec.{lit<}
 use lib.Ieee.{Float, nan, binary32, of_bits}
 use lib.Ieee.Scale.{finite}
-use Rattle.std.specs.List.{list_all}
-use Rattle.std.proofs.lemmas.List.Folds.{list_all_more}
+use Rattle.std.specs.List.{list_all, range_with_len}
+use Rattle.std.proofs.lemmas.List.Folds.{list_all_more, list_all-append, list_all-map}
+use Rattle.std.proofs.lemmas.List.FromFn.{map-range_with_len_more}
 use Rattle.floats.specs.Ranges.{finite_to, all_finite}
 use Rattle.board_air.specs.Runs.{on}
-use Rattle.board_air.specs.Words.{air_size, air_in, count_in, row_in, stations_to, stations_on, stations_in}
+use Rattle.board_air.specs.Words.{air_size, air_in, count_in, row_in, station_at, stations_to, stations_on, stations_in, station_ok, stations_ok}
 
 -- within a list no default is read
 pub in_list : {A : Type 0} (l : List A) (i : ℕ) (d e : A) → i < length l → get_or l i d ≡ get_or l i e
@@ -58,3 +60,25 @@ on_read words id = ap (λ (n : ℕ). on id (stations_to (air_in words) n)) (sym 
 pub length-read : (words : List ℕ) → length (stations_in words) ≡ count_in words
 unfolding stations_on
 length-read words = stations_length (air_in words) (count_in (air_in words)) ∙ count_in_lem words
+
+-- each station in its place
+pub stations_all : (air : List ℕ) (n : ℕ) → list_all (λ (k : ℕ). station_ok (station_at air k) (stations_to air k)) (range_with_len 0 n) ≡ stations_ok (stations_to air n)
+unfolding stations_ok stations_to
+stations_all air n = sym (list_all-map (λ (b : Bool). b) test (range_with_len 0 n)) ∙ go n
+  where
+    test : ℕ → Bool
+    test k = station_ok (station_at air k) (stations_to air k)
+
+    and_true : (a b : Bool) → (a && (b && true)) ≡ (a && b)
+    and_true true true = refl
+    and_true true false = refl
+    and_true false b = refl
+
+    go : (n : ℕ) → list_all (λ (b : Bool). b) (map test (range_with_len 0 n)) ≡ stations_ok (stations_to air n)
+    go zero = refl
+    go (suc n) =
+        ap (λ (m : ℕ). list_all (λ (b : Bool). b) (map test (range_with_len 0 m))) (sym (add-one n))
+        ∙ ap (list_all (λ (b : Bool). b)) (map-range_with_len_more test 0 n n (omega arith))
+        ∙ list_all-append (λ (b : Bool). b) (map test (range_with_len 0 n)) (test n ∷ [])
+        ∙ ap (λ (b : Bool). b && (test n && true)) (go n)
+        ∙ and_true (stations_ok (stations_to air n)) (test n)

@@ -49,12 +49,7 @@ fn stations_ok(air: &[u32], n: usize) -> bool
     requires { (length air.now ≡ air_size) × (n ≤ 16) }
     ensures { result ≡ stations_ok (stations_to air.now n) }
 {
-    for k in 0..n {
-        if !station_ok(air, k) {
-            return false;
-        }
-    }
-    true
+    (0..n).all(|k| station_ok(air, k))
 }
 
 // Whether all words from `at` on are 0.

@@ -67,7 +67,7 @@ pub fn remove(air: &mut [u32], id: u32)
     ensures { air.new ≡ air_of (without id (stations_on air.old)) }
 {
     let n = air[0] as usize;
-    let slot = slot_of(air, n, id);
+    let slot = slot_of(air, n, id).unwrap();
     close_gap(air, 1 + 361 * slot);
     clear(air, AIR - 361, 361);
     air[0] = (n as u32) - 1;

@@ -9,7 +9,7 @@ ghost use Rattle.bandbook.specs.Answers.{placed};
 ghost use Rattle.book_calls.specs.Book.{packed, book_call, station_call};
 
 use bandbook::Refused;
-use packed::{REFUSED_AT, refused};
+use packed::{refused, refused_at};
 
 // Kind 3 with a refusal's number, or kind 4 with its number and place.
 #[tactic(auto, unfolding(crate::specs::Book::packed))]
@@ -18,7 +18,7 @@ fn pack(e: Refused) -> u64
 {
     match e.place {
         None => refused(e.refusal),
-        Some(place) => REFUSED_AT + (u8::from(e.refusal) as u64 * 65536 + place as u64),
+        Some(place) => refused_at(e.refusal, place),
     }
 }
 

@@ -17,9 +17,10 @@ use Rattle.lines.specs.Words.{words_of}
 use Rattle.lines.proofs.Laws.{start-inside, line-inside, line_forward, lines_more, lines-last}
 use Rattle.card.specs.declared.line.Line.{Line}
 use Rattle.card.specs.Card.{card_of, line_at}
+use Rattle.std.specs.Prelude.{Option, Some, None}
 use Rattle.fields.specs.Least.{least, FirstOf}
-use Rattle.fields.proofs.Least.{least_is}
-use Rattle.card.specs.Inner.{IsLine, FirstLine}
+use Rattle.fields.proofs.Least.{least_is, least-all}
+use Rattle.card.specs.Inner.{IsLine, IsFound, FirstLine}
 
 -- the lines from an index on; behind the text's end there are none
 pub lines_from : List ℕ → ℕ → List (List ℕ)
@@ -70,8 +71,8 @@ module _ {text : List ℕ} {i at to : ℕ} (w : Walk text i at) (h : at ≤ leng
   pub next-counted : i < length (card_of text)
   next-counted = omega (arith, length-drop i (card_of text), ap length left_here)
 
-  pub next-line : IsLine text (suc i) (record { number = suc i; from = at; to = to })
-  next-line = record { number = refl; words = sym next-words; ordered = forward; inside = inside }
+  pub next-line : {r : Line} → r.number ≡ i + 1 → r.words.now ≡ take (to - at) (drop at text) → IsLine text r.number r
+  next-line {r} n e = record { number = refl; words = ap words_of e ∙ sym next-words ∙ ap (line_at (card_of text)) (sym (n ∙ add-one i)) }
 
   pub walk_on : Walk text (suc i) (to + 1)
   walk_on =
@@ -81,13 +82,15 @@ module _ {text : List ℕ} {i at to : ℕ} (w : Walk text i at) (h : at ≤ leng
       }
 
 -- what a search for a line found, where the calls of its test return what `test` is of the line's number
-pub first_line : (test : ℕ → Bool) (text : List ℕ) (Returns : Line → Bool → Type 0) (r : Line) → ((q : Line) (b : Bool) → IsLine text q.number q → Returns q b → b ≡ test q.number)
-    → FirstLine text Returns r → IsLine text (least test (length (card_of text))) r
-first_line test text Returns r same f = subst (λ (k : ℕ). IsLine text k r) (least_is test (λ k b. b ≡ test k) (length (card_of text)) r.number (λ i b h p. rw add-one at p) found) f.its
+pub first_line : (test : ℕ → Bool) (text : List ℕ) (Returns : Line → Bool → Type 0) (o : Option Line) → ((q : Line) (b : Bool) → IsLine text q.number q → Returns q b → b ≡ test q.number)
+    → FirstLine text Returns o → IsFound text (least test (length (card_of text))) o
+unfolding FirstLine IsFound
+first_line test text Returns None same f = least-all test (length (card_of text)) (λ i h. let q = f i h in sym (rw (q.number, add-one) at (same q.line false q.its q.failed)))
+first_line test text Returns (Some r) same f = subst (λ (k : ℕ). IsFound text k (Some r)) (least_is test (λ k b. b ≡ test k) (length (card_of text)) r.number (λ i b h p. rw add-one at p) first) (f.counted, f.its)
   where
-    found : FirstOf (λ k b. b ≡ test k) (length (card_of text)) r.number
-    found = record {
+    first : FirstOf (λ k b. b ≡ test k) (length (card_of text)) r.number
+    first = record {
       within = f.within;
-      before = λ i h z. let q = f.before i h z in rw q.number at (same q.line false q.its q.failed);
-      here = λ h. same r true f.its (f.here h);
+      before = λ i h z. let q = f.before i (⊎_elim (λ (e : r.number ≡ 0). absurd (omega (arith, f.counted, e))) (λ l. l) z) in rw q.number at (same q.line false q.its q.failed);
+      here = λ h. same r true f.its f.here;
     }

@@ -2,11 +2,11 @@
 ghost use Rattle.std.specs.Prelude.{◌≡◌};
 ghost use Rattle.lines.specs.Words.{words_of};
 ghost use Rattle.card.specs.Card as Card;
-ghost use Rattle.card.specs.Inner.{IsLine};
+ghost use Rattle.card.specs.Inner.{IsLine, found};
 ghost use Rattle.card.specs.Mistakes.{word_fault, is_bad, first_bad, field_fault, mistake_in, is_wrong, first_mistake, type_mistake, is_missing, first_missing, missing_field, card_mistake};
 
 use crate::kind::is_curtain;
-use crate::line::{Line, field_in, find, line_for, number_count, word_at};
+use crate::line::{Line, field_in, find, line_for, line_of, number_count, word_at};
 use crate::mistakes::{Fault, Mistake};
 use decimal::{NotRead, read};
 use fields::Kind;
@@ -45,25 +45,26 @@ fn is_bad(kind: Kind, line: &[u8], k: usize) -> bool
     number_fault(kind, field_in(line), k, line).is_some()
 }
 
-// The first of a line's numbers with something wrong, 0 where there is none.
-fn first_bad(kind: Kind, line: &[u8]) -> usize
-    ensures { result ≡ first_bad kind (words_of line.now) }
+// The first of a line's numbers with something wrong.
+fn first_bad(kind: Kind, line: &[u8]) -> Option<usize>
+    ensures { result ≡ found (first_bad kind (words_of line.now)) }
 {
-    least(number_count(line), |k| is_bad(kind, line, k))
+    let k = least(number_count(line), |k| is_bad(kind, line, k));
+    if k == 0 { None } else { Some(k) }
 }
 
 // What is wrong with a line but for what its numbers are.
 #[tactic(auto, unfolding(crate::specs::Mistakes::field_fault))]
-fn field_fault(text: &[u8], kind: Kind, line: Line) -> Option<Fault>
+fn field_fault(text: &[u8], kind: Kind, line: Line<'_>) -> Option<Fault>
     requires { IsLine text.now line.number line }
-    ensures { result ≡ field_fault kind (Card.card_of text.now) line.number }
+    ensures { result ≡ field_fault kind (Card.card_of text.now) line.entry.number }
 {
-    let words = &text[line.from..line.to];
+    let words = line.words;
     let f = field_in(words);
     if f == 0 {
         return Some(Fault::Unknown);
     }
-    let earlier = line_for(text, f).number;
+    let earlier = line_of(text, f);
     if earlier < line.number {
         return Some(Fault::Twice(earlier));
     }
@@ -83,11 +84,11 @@ fn field_fault(text: &[u8], kind: Kind, line: Line) -> Option<Fault>
 
 // What is wrong with a line.
 #[tactic(auto, unfolding(crate::specs::Mistakes::mistake_in))]
-fn mistake_in(text: &[u8], kind: Kind, line: Line) -> Option<Mistake>
+fn mistake_in(text: &[u8], kind: Kind, line: Line<'_>) -> Option<Mistake>
     requires { IsLine text.now line.number line }
-    ensures { result ≡ mistake_in kind (Card.card_of text.now) line.number }
+    ensures { result ≡ mistake_in kind (Card.card_of text.now) line.entry.number }
 {
-    let words = &text[line.from..line.to];
+    let words = line.words;
     if word_count(words) == 0 {
         return None;
     }
@@ -100,10 +101,7 @@ fn mistake_in(text: &[u8], kind: Kind, line: Line) -> Option<Mistake>
             number: 0,
         });
     }
-    let k = first_bad(kind, words);
-    if k == 0 {
-        return None;
-    }
+    let k = first_bad(kind, words)?;
     Some(Mistake {
         what: number_fault(kind, f, k, words)?,
         line: line.number,
@@ -112,9 +110,9 @@ fn mistake_in(text: &[u8], kind: Kind, line: Line) -> Option<Mistake>
     })
 }
 
-fn is_wrong(text: &[u8], kind: Kind, line: Line) -> bool
+fn is_wrong(text: &[u8], kind: Kind, line: Line<'_>) -> bool
     requires { IsLine text.now line.number line }
-    ensures { result ≡ is_wrong kind (Card.card_of text.now) line.number }
+    ensures { result ≡ is_wrong kind (Card.card_of text.now) line.entry.number }
 {
     mistake_in(text, kind, line).is_some()
 }
@@ -123,39 +121,40 @@ fn is_wrong(text: &[u8], kind: Kind, line: Line) -> bool
 fn first_mistake(text: &[u8], kind: Kind) -> Option<Mistake>
     ensures { result ≡ first_mistake kind (Card.card_of text.now) }
 {
-    let line = find(text, |line| is_wrong(text, kind, line));
+    let line = find(text, |line| is_wrong(text, kind, line))?;
     mistake_in(text, kind, line)
 }
 
 // The mistake of the first `type` line.
-#[tactic(auto, unfolding(crate::specs::Mistakes::type_mistake))]
+#[tactic(auto, unfolding(crate::specs::Mistakes::type_mistake, crate::specs::Inner::IsFound))]
 fn type_mistake(text: &[u8], kind: Kind) -> Option<Mistake>
     ensures { result ≡ type_mistake kind (Card.card_of text.now) }
 {
-    let line = line_for(text, TYPE);
-    if line.number == 0 {
+    let Some(line) = line_for(text, TYPE) else {
         return Some(Mistake {
             what: Fault::Missing,
             line: 1,
             field: TYPE,
             number: 0,
         });
-    }
+    };
     mistake_in(text, kind, line)
 }
 
 // Whether the kind has a field that the card hasn't.
+#[tactic(auto, unfolding(crate::specs::Inner::IsFound))]
 fn is_missing(text: &[u8], kind: Kind, f: usize) -> bool
     ensures { result ≡ is_missing kind (Card.card_of text.now) f }
 {
-    has_field(kind, f) && line_for(text, f).number == 0
+    has_field(kind, f) && line_for(text, f).is_none()
 }
 
-// The first such field, 0 where there is none.
-fn first_missing(text: &[u8], kind: Kind) -> usize
-    ensures { result ≡ first_missing kind (Card.card_of text.now) }
+// The first such field.
+fn first_missing(text: &[u8], kind: Kind) -> Option<usize>
+    ensures { result ≡ found (first_missing kind (Card.card_of text.now)) }
 {
-    least(FIELDS, |f| is_missing(text, kind, f))
+    let f = least(FIELDS, |f| is_missing(text, kind, f));
+    if f == 0 { None } else { Some(f) }
 }
 
 // That mistake, told at the line of `type`.
@@ -163,13 +162,10 @@ fn first_missing(text: &[u8], kind: Kind) -> usize
 fn missing_field(text: &[u8], kind: Kind) -> Option<Mistake>
     ensures { result ≡ missing_field kind (Card.card_of text.now) }
 {
-    let field = first_missing(text, kind);
-    if field == 0 {
-        return None;
-    }
+    let field = first_missing(text, kind)?;
     Some(Mistake {
         what: Fault::Missing,
-        line: line_for(text, TYPE).number,
+        line: line_of(text, TYPE),
         field,
         number: 0,
     })

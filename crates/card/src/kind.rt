@@ -3,7 +3,7 @@ ghost use Rattle.std.specs.Prelude.{◌≡◌, ◌≤◌};
 ghost use Rattle.card.specs.Card as Card;
 ghost use Rattle.card.specs.Kind.{is_curtain, type_of, type_in, mode_in, kind_in};
 
-use crate::line::{field_in, gain_line, line_for, word_at};
+use crate::line::{field_in, gain_line, word_at, words_for};
 use decimal::read;
 use fields::limits::type_number;
 use fields::names::TYPE;
@@ -37,19 +37,20 @@ fn type_of(w: &[u8]) -> usize
 fn type_in(text: &[u8]) -> usize
     ensures { result ≡ type_in (Card.card_of text.now) }
 {
-    let line = line_for(text, TYPE);
-    type_of(word_at(&text[line.from..line.to], 1))
+    type_of(word_at(words_for(text, TYPE), 1))
 }
 
-#[tactic(auto, unfolding(crate::specs::Kind::mode_in))]
+#[tactic(auto, using(crate::proofs::Found::no_mode), unfolding(crate::specs::Kind::mode_in, crate::specs::Inner::IsFound, crate::specs::Card::line_at))]
 fn mode_in(text: &[u8], iant: usize) -> u8
     ensures { result ≡ mode_in iant (Card.card_of text.now) }
 {
     if iant == CURTAIN {
         return 3;
     }
-    let line = gain_line(text, iant);
-    mode_of(field_in(&text[line.from..line.to]))
+    match gain_line(text, iant) {
+        Some(line) => mode_of(field_in(line.words)),
+        None => 0,
+    }
 }
 
 #[tactic(auto, unfolding(crate::specs::Kind::kind_in))]

@@ -4,7 +4,7 @@ ghost use Rattle.lines.specs.Words.{words_of};
 ghost use Rattle.card.specs.Card as Card;
 ghost use Rattle.card.specs.Kind.{decides};
 ghost use Rattle.card.specs.declared.line.Line.{Line};
-ghost use Rattle.card.specs.Inner.{IsLine, FirstLine};
+ghost use Rattle.card.specs.Inner.{IsLine, IsFound, FirstLine};
 ghost use Rattle.fields.specs.Names.{name_of};
 ghost use Rattle.lines.specs.Alike.{alike};
 
@@ -13,12 +13,11 @@ use fields::names::{field_of, is_name};
 use fields::table::{has_field, is_maximum_gain, mode_of};
 use lines::{line_end, text_start, word, word_count};
 
-// A line of a text: its number, from 1, and where it stands. Line 0 is none, and has nothing in it.
+// A line of a text: its number, from 1, and what stands in it.
 #[derive(Clone, Copy)]
-pub struct Line {
+pub struct Line<'a> {
     pub number: usize,
-    pub from: usize,
-    pub to: usize,
+    pub words: &'a [u8],
 }
 
 // A line's word k; nothing past the last.
@@ -42,25 +41,9 @@ fn decides(iant: usize, w: &[u8]) -> bool
     is_maximum_gain(f) && has_field(kind, f)
 }
 
-// Whether a line begins with the field's name.
-fn is_about(text: &[u8], f: usize, line: Line) -> bool
-    requires { IsLine text.now line.number line }
-    ensures { result ≡ alike (name_of f) (Card.word (Card.line_at (Card.card_of text.now) line.number) 0) }
-{
-    is_name(f, word_at(&text[line.from..line.to], 0))
-}
-
-// Whether a line begins with a maximum gain that this type has.
-fn decides_at(text: &[u8], iant: usize, line: Line) -> bool
-    requires { IsLine text.now line.number line }
-    ensures { result ≡ decides iant (Card.word (Card.line_at (Card.card_of text.now) line.number) 0) }
-{
-    decides(iant, word_at(&text[line.from..line.to], 0))
-}
-
-// The first line that passes the test; line 0 where none does.
+// The first line that passes the test.
 // Inner step: the test can be made of each line.
-pub fn find<F: Fn(Line) -> bool>(text: &[u8], passes: F) -> Line
+pub fn find<F: Fn(Line<'_>) -> bool>(text: &[u8], passes: F) -> Option<Line<'_>>
     requires { (line : Line) → IsLine text.now line.number line → F.pre passes line }
     ensures { FirstLine text.now (F.post passes) result }
 {
@@ -72,40 +55,50 @@ pub fn find<F: Fn(Line) -> bool>(text: &[u8], passes: F) -> Line
         number += 1;
         let line = Line {
             number,
-            from: at,
-            to,
+            words: &text[at..to],
         };
         if passes(line) {
-            return line;
+            return Some(line);
         }
         at = to + 1;
     }
-    Line {
-        number: 0,
-        from: 0,
-        to: 0,
-    }
+    None
 }
 
-// The first line that begins with the field's name; line 0 where there is none.
-pub(crate) fn line_for(text: &[u8], f: usize) -> Line
-    ensures { IsLine text.now (Card.line_of (Card.card_of text.now) f) result }
+// The first line that begins with the field's name.
+pub(crate) fn line_for(text: &[u8], f: usize) -> Option<Line<'_>>
+    ensures { IsFound text.now (Card.line_of (Card.card_of text.now) f) result }
 {
-    find(text, |line| is_about(text, f, line))
+    find(text, |line| is_name(f, word_at(line.words, 0)))
 }
 
-// The first line that begins with a maximum gain of this type; line 0 where there is none.
-pub(crate) fn gain_line(text: &[u8], iant: usize) -> Line
-    ensures { IsLine text.now (Card.line_with (decides iant) (Card.card_of text.now)) result }
+// The first line that begins with a maximum gain of this type.
+pub(crate) fn gain_line(text: &[u8], iant: usize) -> Option<Line<'_>>
+    ensures { IsFound text.now (Card.line_with (decides iant) (Card.card_of text.now)) result }
 {
-    find(text, |line| decides_at(text, iant, line))
+    find(text, |line| decides(iant, word_at(line.words, 0)))
 }
 
 // The first line of a field, 0 where there is none.
+#[tactic(auto, unfolding(crate::specs::Inner::IsFound))]
 pub fn line_of(text: &[u8], f: usize) -> usize
     ensures { result ≡ Card.line_of (Card.card_of text.now) f }
 {
-    line_for(text, f).number
+    match line_for(text, f) {
+        Some(line) => line.number,
+        None => 0,
+    }
+}
+
+// What stands in that line; nothing, where there is none.
+#[tactic(auto, using(crate::proofs::Found::no_words), unfolding(crate::specs::Inner::IsFound, crate::specs::Card::line_at))]
+pub(crate) fn words_for(text: &[u8], f: usize) -> &[u8]
+    ensures { words_of result.now ≡ Card.line_for (Card.card_of text.now) f }
+{
+    match line_for(text, f) {
+        Some(line) => line.words,
+        None => &[],
+    }
 }
 
 // The field that a line is about, 0 for none.

@@ -4,7 +4,7 @@ ghost use Rattle.card.specs.Card as Card;
 ghost use Rattle.card.specs.Places.{value_of, unnamed, placed, station_in};
 
 use crate::kind::is_curtain;
-use crate::line::{line_for, word_at};
+use crate::line::{word_at, words_for};
 use decimal::read;
 use fields::table::source_of;
 use fields::{CURTAIN, Kind};
@@ -43,8 +43,7 @@ pub(crate) fn placed(text: &[u8], kind: Kind, p: usize) -> f32
     if source.field == 0 {
         return unnamed(kind, p);
     }
-    let line = line_for(text, source.field);
-    value_of(word_at(&text[line.from..line.to], source.number))
+    value_of(word_at(words_for(text, source.field), source.number))
 }
 
 // Places 0 to 55, with the mode.

@@ -5,14 +5,12 @@
 // (specs/Calls.antt): `read_card`, the station of a card or its first mistake as six words; `tell_card`,
 // the sentence of a card's mistake or remark; `write_card`, the card of a station.
 ghost use Rattle.std.specs.Prelude.{◌≡◌};
-ghost use Rattle.answers.specs.Outcome.{outcome};
-ghost use Rattle.packed.specs.Packed.{counted};
 ghost use Rattle.card_calls.specs.Calls.{read_call, tell_call, write_call};
 
 use answers::Refusal;
 use card::NoStation;
 use card_text::numbers::mistake_words;
-use packed::refused;
+use packed::{counted, refused, status};
 
 // The station of a card: 0 with its 237 bytes, or 1 with the mistake's six words. 8 for slices of
 // another length.
@@ -21,26 +19,15 @@ pub fn read_card(text: &[u8], station: &mut [u8], mistake: &mut [u32]) -> u32
     ensures { (result, (station.new, mistake.new)) ≡ read_call text.now station.old mistake.old }
 {
     if mistake.len() != 6 {
-        return u8::from(Refusal::Space) as u32;
+        return status(Err(Refusal::Space));
     }
     match card::station(text, station) {
         Ok(()) => 0,
-        Err(NoStation::Refused(r)) => u8::from(r) as u32,
+        Err(NoStation::Refused(r)) => status(Err(r)),
         Err(NoStation::Mistaken(m)) => {
             mistake.copy_from_slice(&mistake_words(text, m));
-            u8::from(Refusal::Record) as u32
+            status(Err(Refusal::Record))
         }
-    }
-}
-
-// A length under kind 0, or the refusal's number under kind 3.
-#[tactic(auto, unfolding(packed::specs::Packed::counted))]
-fn counted(length: Result<usize, Refusal>) -> u64
-    ensures { result ≡ counted (outcome length) }
-{
-    match length {
-        Ok(n) => n as u64,
-        Err(r) => refused(r),
     }
 }
 
@@ -49,7 +36,7 @@ fn counted(length: Result<usize, Refusal>) -> u64
 pub fn tell_card(text: &[u8], out: &mut [u8]) -> u64
     ensures { (result, out.new) ≡ tell_call text.now out.old }
 {
-    counted(card_text::sentence(text, out))
+    counted(card_text::sentence(text, out).map(|n| n as u64))
 }
 
 // The card of a station's 237 bytes. 8 first for under 8,192 bytes.
@@ -60,5 +47,5 @@ pub fn write_card(station: &[u8], out: &mut [u8]) -> u64
     if out.len() < 8192 {
         return refused(Refusal::Space);
     }
-    counted(card_back::card_of(station, out))
+    counted(card_back::card_of(station, out).map(|n| n as u64))
 }

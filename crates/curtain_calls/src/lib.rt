@@ -4,24 +4,11 @@
 // floats, and answer what `curtain` answers of them (specs/Curtain.antt): bits, a count, or a refusal's
 // number under kind 3; the levels are left in lent floats, which a refusal leaves as they were.
 ghost use Rattle.std.specs.Prelude.{◌≡◌};
-ghost use Rattle.answers.specs.Outcome.{outcome};
-ghost use Rattle.packed.specs.Packed.{counted};
-ghost use Rattle.curtain_calls.specs.Curtain.{packed, curtain_call, factor_call, curtain_levels_call};
+ghost use Rattle.curtain_calls.specs.Curtain.{curtain_call, factor_call, curtain_levels_call};
 
 use answers::Refusal;
 use numeric::bits::bits_of;
-use packed::refused;
-
-// Kind 0 with a count or a float's bits, or kind 3 with a refusal's number.
-#[tactic(auto, unfolding(packed::specs::Packed::counted))]
-fn pack(answer: Result<u32, Refusal>) -> u64
-    ensures { result ≡ counted (outcome answer) }
-{
-    match answer {
-        Ok(n) => n as u64,
-        Err(r) => refused(r),
-    }
-}
+use packed::{counted, refused};
 
 // `curtain::gain` of twenty parameters; 8 first for parameters of another number.
 #[tactic(auto, unfolding(crate::specs::Curtain::curtain_call, crate::specs::Curtain::packed, packed::specs::Packed::counted))]
@@ -29,7 +16,7 @@ pub fn gain(parm: &[f32], azimuth: f32, elevation: f32, factor: f32) -> u64
     ensures { result ≡ curtain_call parm.now azimuth elevation factor }
 {
     match <[f32; 20]>::try_from(parm) {
-        Ok(p) => pack(curtain::gain(p, azimuth, elevation, factor).map(bits_of)),
+        Ok(p) => counted(curtain::gain(p, azimuth, elevation, factor).map(|x| bits_of(x) as u64)),
         Err(_) => refused(Refusal::Space),
     }
 }
@@ -40,7 +27,7 @@ pub fn factor(parm: &[f32]) -> u64
     ensures { result ≡ factor_call parm.now }
 {
     match <[f32; 20]>::try_from(parm) {
-        Ok(p) => pack(curtain::factor(p).map(bits_of)),
+        Ok(p) => counted(curtain::factor(p).map(|x| bits_of(x) as u64)),
         Err(_) => refused(Refusal::Space),
     }
 }
@@ -52,7 +39,7 @@ pub fn levels(parm: &[f32], factor: f32, directions: &[f32], levels: &mut [f32])
     ensures { (result, levels.new) ≡ curtain_levels_call parm.now factor directions.now levels.old }
 {
     match <[f32; 20]>::try_from(parm) {
-        Ok(p) => pack(curtain::levels::levels(p, factor, directions, levels)),
+        Ok(p) => counted(curtain::levels::levels(p, factor, directions, levels).map(|n| n as u64)),
         Err(_) => refused(Refusal::Space),
     }
 }

@@ -31,7 +31,7 @@ fn pair_of(g: Result<Gain, Refusal>) -> [u32; 2]
 {
     match g {
         Ok(Gain { kind, number }) => [kind as u32, bits_of(number)],
-        Err(r) => [3, u8::from(r) as u32],
+        Err(r) => [3, status(Err(r))],
     }
 }
 

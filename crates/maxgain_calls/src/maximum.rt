@@ -5,11 +5,12 @@ ghost use Rattle.maxgain.specs.Maximum.{gain_and_parm};
 ghost use Rattle.packed.specs.Lists.{left};
 ghost use Rattle.maxgain_calls.specs.Maximum.{maximum_words, maxgain_call};
 
-use crate::{number_of, station_at};
 use answers::Refusal;
 use maxgain::maximum::Found;
 use maxgain::setmaxgain;
 use numeric::bits::bits_of;
+use packed::lent::station_at;
+use packed::status;
 use words::patterns::put_bits;
 
 // The answer in the lent words; a refusal leaves them as they were.
@@ -24,7 +25,7 @@ fn put_maximum(found: Result<Found, Refusal>, out: &mut [u32]) -> u32
             put_bits(out, 1, &f.parm);
             0
         }
-        Err(r) => number_of(r),
+        Err(r) => status(Err(r)),
     }
 }
 
@@ -35,7 +36,7 @@ pub fn maxgain(mode: u32, floats: &[f32], out: &mut [u32]) -> u32
     ensures { left result out.new ≡ maxgain_call mode floats.now out.old }
 {
     if (floats.len() != 58) | (out.len() != 21) {
-        return number_of(Refusal::Space);
+        return status(Err(Refusal::Space));
     }
     put_maximum(
         setmaxgain(station_at(mode, floats), floats[56], floats[57]),

@@ -4,10 +4,11 @@ ghost use Rattle.answers.specs.Outcome.{outcome};
 ghost use Rattle.packed.specs.Lists.{left};
 ghost use Rattle.maxgain_calls.specs.Preview.{shown_words, preview_words, preview_call};
 
-use crate::{number_of, station_at};
 use answers::Refusal;
 use maxgain_preview::Shown;
 use numeric::bits::bits_of;
+use packed::lent::station_at;
+use packed::status;
 
 // The gain's bits, then each slot's mark and bits.
 #[tactic(auto, unfolding(crate::specs::Preview::shown_words))]
@@ -38,7 +39,7 @@ fn put_preview(shown: Result<Shown, Refusal>, out: &mut [u32]) -> u32
             put_shown(s, out);
             0
         }
-        Err(r) => number_of(r),
+        Err(r) => status(Err(r)),
     }
 }
 
@@ -49,7 +50,7 @@ pub fn preview(mode: u32, floats: &[f32], out: &mut [u32]) -> u32
     ensures { left result out.new ≡ preview_call mode floats.now out.old }
 {
     if (floats.len() != 58) | (out.len() != 7) {
-        return number_of(Refusal::Space);
+        return status(Err(Refusal::Space));
     }
     put_preview(
         maxgain_preview::preview(station_at(mode, floats), floats[56], floats[57]),

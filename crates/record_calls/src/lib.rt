@@ -8,8 +8,8 @@ ghost use Rattle.packed.specs.Lists.{left};
 ghost use Rattle.record_calls.specs.Record.{station_words, station_in, read_call, write_call};
 
 use answers::Refusal;
-use packed::arrays::floats_at;
-use packed::lent::{floats_of, mode_of};
+use packed::lent::{floats_of, station_at};
+use packed::status;
 use station::Station;
 use words::patterns::put_bits;
 
@@ -31,13 +31,7 @@ fn station_in(words: &[u32]) -> Station
     requires { length words.now ≡ 57 }
     ensures { result ≡ station_in words.now }
 {
-    let floats = floats_of(words);
-    Station {
-        mode: mode_of(words[0]),
-        parm: floats_at(&floats, 0),
-        gainmax: floats_at(&floats, 20),
-        gainmaxb: floats_at(&floats, 26),
-    }
+    station_at(words[0], &floats_of(words))
 }
 
 // Reads a record into 57 words: 0; or the refusal, and 8 first for words of another number.
@@ -46,14 +40,14 @@ pub fn read(bytes: &[u8], words: &mut [u32]) -> u32
     ensures { left result words.new ≡ read_call bytes.now words.old }
 {
     if words.len() != 57 {
-        return u8::from(Refusal::Space) as u32;
+        return status(Err(Refusal::Space));
     }
     match station::read(bytes) {
         Ok(s) => {
             put_station(s, words);
             0
         }
-        Err(r) => u8::from(r) as u32,
+        Err(r) => status(Err(r)),
     }
 }
 
@@ -64,10 +58,7 @@ pub fn write(edition: u32, words: &[u32], bytes: &mut [u8]) -> u32
     ensures { left result bytes.new ≡ write_call edition words.now bytes.old }
 {
     if words.len() != 57 {
-        return u8::from(Refusal::Space) as u32;
+        return status(Err(Refusal::Space));
     }
-    match station::write(edition, station_in(words), bytes) {
-        Ok(()) => 0,
-        Err(r) => u8::from(r) as u32,
-    }
+    status(station::write(edition, station_in(words), bytes))
 }

@@ -5,7 +5,7 @@ ghost use Rattle.plate_text.specs.Plate.{text_in};
 ghost use Rattle.planet_text.specs.Planet.{planet_of, text_after};
 ghost use Rattle.packed.specs.Packed.{counted};
 
-use packed::refused;
+use packed::counted;
 
 // The program's whole output for this input, and its length; a text of under 8,192 bytes gets
 // nothing, and 0.
@@ -24,8 +24,5 @@ pub extern "C" fn hf_planet(input: &[u8], text: &mut [u8]) -> u64
     ensures value { result ≡ counted (planet_of input.now (length text.old)) }
     ensures text_after { text.new ≡ text_after input.now text.old }
 {
-    match planet_text::planet(input, text) {
-        Ok(length) => length as u64,
-        Err(r) => refused(r),
-    }
+    counted(planet_text::planet(input, text).map(|length| length as u64))
 }

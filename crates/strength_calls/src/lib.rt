@@ -11,9 +11,7 @@ ghost use Rattle.strength_calls.specs.Strengths.{screen_words, levels_left, reco
 use answers::Refusal;
 use levels::Levels;
 use numeric::bits::bits_of;
-
-// The number of that refusal, as C callers get it.
-const SPACE: u32 = Refusal::Space as u32;
+use packed::status;
 
 // What the screen shows in three words; a refusal leaves them as they were.
 #[tactic(auto, unfolding(crate::specs::Strengths::screen_words))]
@@ -30,7 +28,7 @@ fn put_screen(screen: Result<Option<Levels>, Refusal>, out: &mut [u32]) -> u32
             out.fill(0);
             0
         }
-        Err(r) => u8::from(r) as u32,
+        Err(r) => status(Err(r)),
     }
 }
 
@@ -41,7 +39,7 @@ pub fn record(state: &mut [u32], level: f32, out: &mut [u32]) -> u32
     ensures { levels_left state.new (left result out.new) ≡ record_call state.old level out.old }
 {
     if out.len() != 3 {
-        return SPACE;
+        return status(Err(Refusal::Space));
     }
     put_screen(levels::record(state, level), out)
 }
@@ -52,7 +50,7 @@ pub fn show(state: &[u32], out: &mut [u32]) -> u32
     ensures { left result out.new ≡ levels_call state.now out.old }
 {
     if out.len() != 3 {
-        return SPACE;
+        return status(Err(Refusal::Space));
     }
     put_screen(levels::show(state), out)
 }

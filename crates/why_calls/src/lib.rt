@@ -9,7 +9,7 @@ ghost use Rattle.slots.specs.Told.{told_of};
 ghost use Rattle.why_calls.specs.Why.{packed, why_call, curtain_why_call};
 
 use answers::Refusal;
-use packed::{REFUSED_AT, refused};
+use packed::{refused, refused_at};
 use slots::Broken;
 
 // 0 for nothing, or kind 4 with a refusal's number and slot.
@@ -19,7 +19,7 @@ fn pack(w: Option<Broken>) -> u64
 {
     match w {
         None => 0,
-        Some(b) => REFUSED_AT + (u8::from(b.refusal) as u64 * 65536 + b.slot as u64),
+        Some(b) => refused_at(b.refusal, b.slot),
     }
 }
 

@@ -1,34 +1,26 @@
--- `station_at`: what is looked for stands from the loop's row on.
-use mathlib.Core.Path.{◌≡◌}
-use native.Mathlib.Numerals.{add-one}
-use native.Mathlib.Omega.{arith}
-use lib.ListN.{length}
-use lib.Seq.{drop-length}
+-- `station_at`: the row that `find` comes upon.
+use Rattle.std.proofs.Common.{◌≡◌, ◌∙◌, ap, rules, tests}
+use Rattle.std.proofs.lemmas.Iterator.Search.{find_from_yields_List}
+use Rattle.std.specs.Option.{option_map}
 use Rattle.bandbook.specs.Rows.{rows_in}
-use Rattle.bandbook.specs.Coverage.{station_at}
-use Rattle.bandbook.proofs.RowWords.{rows-length}
-use Rattle.bandbook.proofs.Steady.{station-next}
+use Rattle.bandbook.specs.Coverage.{covers, station_at}
+use Rattle.bandbook.proofs.Chunks.{row_read, rows_given, id_of, station_found}
 use Rattle.bandbook.proofs.coverage.station_at.Goals as goal
+use Rattle.bandbook.proofs.coverage.station_at.Goals.{After-find-row}
 
-pub returns-then-is_covered : goal.returns-then-is_covered
-returns-then-is_covered c =
-    let args = c.args in
-    let loop = c.loop-i in
-    let next = station-next (rows_in args.words.now) loop.i (omega (arith, rows-length args.words.now)) args.khz in
-    rw (loop.invariant, next, ← c.row_at-row.ensures, ← c.is_covered.ensures, c.if-is_covered.true)
+found : (c : After-find-row) → id_of (option_map row_read c.find-row.result) ≡ station_at (rows_in c.args.words.now) c.args.khz
+found c =
+    let words = c.args.words.now in
+    let given = rows_given words c.chunks_exact.ensures.rest c.chunks_exact.ensures.size in
+    ap id_of (find_from_yields_List (covers c.args.khz) _ _ c.find-row.result c.find-row.ensures.ran given (λ x b q k. search (rules, tests)))
+    ∙ station_found c.args.khz (rows_in words)
 
-pub loop-i-preserved : goal.loop-i-preserved
-loop-i-preserved c =
-    let args = c.args in
-    let loop = c.loop-i in
-    let next = station-next (rows_in args.words.now) loop.i (omega (arith, rows-length args.words.now)) args.khz in
-    rw (add-one, loop.invariant, next, ← c.row_at-row.ensures, ← c.is_covered.ensures, c.if-is_covered.false)
+pub returns-in-Some : goal.returns-in-Some
+returns-in-Some c =
+    let f = found (goal.at.returns-in-Some c).After-find-row in
+    ap (λ r. r.id) c.row_of.ensures ∙ (rw c.in-Some.is at f)
 
-pub returns : goal.returns
-unfolding station_at
-returns c =
-    let args = c.args in
-    let loop = c.loop-i in
-    let rows = rows_in args.words.now in
-    let e : loop.i ≡ length rows = omega (arith, rows-length args.words.now) in
-    rw (loop.invariant, e, drop-length)
+pub returns-in-None : goal.returns-in-None
+returns-in-None c =
+    let f = found (goal.at.returns-in-None c).After-find-row in
+    rw c.in-None.is at f

@@ -1,26 +1,12 @@
 -- `find`, a line a turn: none of the lines passed passes the test. Assumes nothing.
-use mathlib.Core.Path.{◌≡◌, refl, sym, subst}
-use mathlib.Core.Logic.{⊎_elim}
-use Prim.Native.Nat.{ℕ, suc, ◌+◌}
+use mathlib.Core.Path.{refl}
 use native.Mathlib.Omega.{arith}
 use borrow.Author.Count.{below_more}
 use Rattle.std.proofs.Common.{rules}
 use native.Mathlib.Numerals.{add-one}
-use mathlib.Core.List.{List, []}
-use Rattle.lines.specs.Pieces.{up_to, pieces}
-use Rattle.lines.specs.Words.{filled, runs_of, words_of}
-use Rattle.card.specs.Card.{line_at}
-use Rattle.card.specs.Inner.{IsLine, Failed}
+use Rattle.card.specs.Inner.{FirstLine}
 use Rattle.card.proofs.Walk.{walk_start, walk_end, walk_on, forward, inside, next-counted, next-line}
 use Rattle.card.proofs.line.find.Goals as goal
-
-no_words : words_of [] ≡ []
-unfolding words_of runs_of up_to pieces filled
-no_words = refl
-
--- the line of this turn, under the number that the code counted
-counted : {text : List ℕ} {i at to : ℕ} → IsLine text (suc i) (record { number = suc i; from = at; to = to }) → IsLine text (i + 1) (record { number = i + 1; from = at; to = to })
-counted {text} {i} {at} {to} p = subst (λ (k : ℕ). IsLine text k (record { number = k; from = at; to = to })) (sym (add-one i)) p
 
 pub loop-at-init : goal.loop-at-init
 loop-at-init g c = (walk_start _ _ c.text_start-at.ensures, λ i h. absurd (omega arith))
@@ -29,17 +15,28 @@ pub overflow_add-number : goal.overflow_add-number
 overflow_add-number g c = omega (arith, c.loop-at.invariant.0.counted)
 
 pub passes-requires : goal.passes-requires
-passes-requires g c = c.requires _ (counted (next-line c.loop-at.invariant.0 c.loop-at-test.true c.line_end-to.ensures))
+passes-requires g c = c.requires _ (next-line c.loop-at.invariant.0 c.loop-at-test.true c.line_end-to.ensures refl refl)
 
 pub returns-then-passes : goal.returns-then-passes
+unfolding FirstLine
 returns-then-passes g c =
     let l = c.loop-at in
     record {
-      its = counted (next-line l.invariant.0 c.loop-at-test.true c.line_end-to.ensures);
+      its = next-line l.invariant.0 c.loop-at-test.true c.line_end-to.ensures refl refl;
       within = omega (arith, next-counted l.invariant.0 c.loop-at-test.true c.line_end-to.ensures);
-      before = λ i h. ⊎_elim {C = Failed _ _ i} (λ z. absurd (omega arith)) (λ b. l.invariant.1 i (omega arith));
-      here = λ h. search rules;
+      counted = omega arith;
+      before = λ i b. l.invariant.1 i (omega arith);
+      here = search rules;
     }
+
+pub slice_bounds-line-count : goal.slice_bounds-line-count
+slice_bounds-line-count g c = forward c.loop-at.invariant.0 c.loop-at-test.true c.line_end-to.ensures
+
+pub slice_bounds-line-start : goal.slice_bounds-line-start
+slice_bounds-line-start g c = forward c.loop-at.invariant.0 c.loop-at-test.true c.line_end-to.ensures
+
+pub slice_bounds-line-end : goal.slice_bounds-line-end
+slice_bounds-line-end g c = inside c.loop-at.invariant.0 c.loop-at-test.true c.line_end-to.ensures
 
 pub overflow_add-at : goal.overflow_add-at
 overflow_add-at g c = omega (arith, inside c.loop-at.invariant.0 c.loop-at-test.true c.line_end-to.ensures)
@@ -50,18 +47,11 @@ loop-at-smaller g c = omega (arith, forward c.loop-at.invariant.0 c.loop-at-test
 pub loop-at-preserved : goal.loop-at-preserved
 loop-at-preserved g c =
     let l = c.loop-at in
-    let this = counted (next-line l.invariant.0 c.loop-at-test.true c.line_end-to.ensures) in (
+    let this = next-line l.invariant.0 c.loop-at-test.true c.line_end-to.ensures refl refl in (
       rw add-one (walk_on l.invariant.0 c.loop-at-test.true c.line_end-to.ensures),
-      below_more _ l.number l.invariant.1 (record { line = record { number = l.number + 1; from = l.at; to = c.line_end-to.result }; number = refl; its = this; failed = search rules }),
+      below_more _ l.number l.invariant.1 (record { line = _; number = refl; its = this; failed = c.if-passes.ensures }),
     )
 
 pub returns : goal.returns
-unfolding line_at
-returns g c =
-    let l = c.loop-at in
-    record {
-      its = record { number = refl; words = no_words; ordered = omega arith; inside = omega arith };
-      within = omega arith;
-      before = λ i h b. l.invariant.1 i (omega (arith, walk_end l.invariant.0 c.loop-at-test.false));
-      here = λ h. absurd (omega arith);
-    }
+unfolding FirstLine
+returns g c i h = let l = c.loop-at in l.invariant.1 i (omega (arith, walk_end l.invariant.0 c.loop-at-test.false))
