@@ -13,7 +13,7 @@ use Rattle.numeric.specs.Rounding.{F, truncated}
 use Rattle.sine.specs.Sine.{UnitBounded, sine, cosine, sine_at, cosine_at, sine_units, cosine_units, in_domain, quarter, past, pick, next_term, sums, cut}
 use Rattle.numeric.specs.Inner.{unsigned}
 use Rattle.numeric.proofs.rounding.Laws.{F_mono, F-unsigned}
-use Rattle.numeric.proofs.Signs.{neg-neg, neg-below, neg-turns, unsigned-mag}
+use Rattle.numeric.proofs.Signs.{neg-neg, neg-below, neg-turns, unsigned-mag, unsigned-number}
 use Rattle.sine.proofs.Terms.{cut-le}
 
 -- ---- the sine is odd, the cosine even
@@ -90,7 +90,10 @@ cosine_at_uneven (suc (suc (suc (suc q)))) t h e = absurd (none h)
     none : suc (suc (suc (suc q))) ≤ 3 → ⊥
     none h = omega arith
 
--- a size takes a sign as a number
+-- a size is a number, and takes a sign as one
+pub size_number : (y : Float) (w : ℕ) → y ≡ F (pos w) → T (not (is_nan y))
+size_number y w e = subst (λ (b : Bool). T (not b)) (sym (ap is_nan e ∙ unsigned-number (F (pos w)) (F-unsigned w))) tt
+
 pub size-signed : (y : Float) (w : ℕ) (b : Bool) → y ≡ F (pos w) → with_sign y b ≡ cond b (neg (F (pos w))) (F (pos w))
 size-signed y w b e = let v : mag y ≡ F (pos w) = ap mag e ∙ unsigned-mag (F (pos w)) (F-unsigned w) in (λ i. cond b (neg (v i)) (v i))
 

@@ -12,7 +12,7 @@ ghost use Rattle.numeric.specs.Rounding as Rounding;
 ghost use Rattle.sine.specs.Sine as Sine;
 ghost use Rattle.sine.specs.Inner.{quarter_turn, Summable};
 
-use numeric::float::{is_sign_negative, with_sign};
+use numeric::float::{abs, is_sign_negative, signed};
 use numeric::rounding::{from_units, truncated};
 
 // 2^30 units are 1.
@@ -132,7 +132,7 @@ fn sine_at(a: Angle, negative: bool) -> f32
     } else {
         summed(t, 1, COSINE_TERMS, ONE)
     };
-    with_sign(size, (q >= 2) != negative)
+    signed(size, (q >= 2) != negative)
 }
 
 // The cosine of an angle: C in the even quarters and S in the odd ones.
@@ -147,14 +147,14 @@ fn cosine_at(a: Angle) -> f32
     } else {
         summed(t, 2, SINE_TERMS, t)
     };
-    with_sign(size, (q == 1) | (q == 2))
+    signed(size, (q == 1) | (q == 2))
 }
 
 // Whether a has a sine: |a| is at most 65,536.
 fn in_domain(a: f32) -> bool
     ensures { result ≡ Sine.in_domain a }
 {
-    a.abs() <= 65536.0
+    abs(a) <= 65536.0
 }
 
 // The sine of a radians; a NaN where |a| is above 65,536 or a is no number.

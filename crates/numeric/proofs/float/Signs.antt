@@ -1,9 +1,9 @@
 -- std's sign of a number and its test for a finite one are those of specs/.
-use Rattle.std.proofs.Common.{◌≡◌, false, not, refl, true≢false}
-use Rattle.std.specs.Float.{float_is_finite, is_sign_negative}
-use lib.Ieee.{Float, nan, inf, fin, is_nan}
+use Rattle.std.proofs.Common.{◌≡◌, Bool, true, false, not, sym, refl, true≢false}
+use Rattle.std.specs.Float.{float_is_finite, float_with_sign, is_sign_negative}
+use lib.Ieee.{Float, nan, inf, fin, neg, is_nan}
 use lib.Ieee.Scale.{finite}
-use Rattle.numeric.specs.Float.{sign_bit}
+use Rattle.numeric.specs.Float.{sign_bit, with_sign}
 
 pub sign_is : (x : Float) → is_sign_negative x ≡ sign_bit x
 unfolding is_sign_negative
@@ -22,3 +22,11 @@ unfolding float_is_finite
 finite_is nan = refl
 finite_is (inf s) = refl
 finite_is (fin s m e) = refl
+
+-- a NaN has no sign to set
+pub nan_signed : (x : Float) (s : Bool) → is_nan x ≡ true → x ≡ with_sign x s
+unfolding is_nan neg float_with_sign
+nan_signed nan true e = refl
+nan_signed nan false e = refl
+nan_signed (inf t) s e = absurd (true≢false (sym e))
+nan_signed (fin t m d) s e = absurd (true≢false (sym e))

@@ -7,4 +7,4 @@ use Rattle.sine.proofs.in_domain.Goals as goal
 
 pub returns : goal.returns
 unfolding of_bits
-returns c = ap (λ (x : Float). le x (fin false 1 (pos 16))) c.abs.ensures.value
+returns c = ap (λ (x : Float). le x (fin false 1 (pos 16))) c.abs.ensures
