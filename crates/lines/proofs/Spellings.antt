@@ -52,6 +52,11 @@ words-blank line b e =
 
 -- ---- lines
 
+-- a line feed at the text's end adds a line with nothing in it
+pub lines_feed : (text : List ℕ) → lines_of (text ++ (10 ∷ [])) ≡ lines_of text ++ ([] ∷ [])
+unfolding lines_of
+lines_feed text = pieces_end is_line_feed text 10 refl
+
 -- a text as Windows writes it: CR before each LF
 unfoldable pub windows : List ℕ → List ℕ
 windows [] = []
