@@ -4,7 +4,7 @@ use mathlib.Core.Path.{◌≡◌, refl, ap}
 use mathlib.Core.Bool.{Bool, true, false, cond, ◌&&◌, and-eq-true_iff}
 use mathlib.Core.Logic.{⊎_elim}
 use native.Mathlib.Omega.{arith}
-use lib.Dec.{leb}
+use lib.Dec.{ltb, leb}
 use borrow.Author.Tests.{leb-true, le-leb}
 use Rattle.std.specs.Ordering.{partial_lt}
 use Rattle.std.proofs.lemmas.Bool.Decides.{nat_tests}
@@ -14,7 +14,7 @@ use Rattle.calendar.specs.Days.{month_length, days_of_months, days_of_years, day
 use Rattle.calendar.specs.Times.{is_date, is_time, refusal_of, minutes, before}
 use Rattle.calendar.specs.contracts.time.TimePartialOrd.TheImpl.{partial_cmp-value}
 use Rattle.calendar.proofs.Tests.{le_or_lt}
-use Rattle.calendar.proofs.Days.{month_real, months_grow, years_grow}
+use Rattle.calendar.proofs.Days.{month_usual, month_real, months_grow, years_grow}
 
 -- what the test says
 pub record Real (t : Time) : Type 0 where
@@ -74,6 +74,10 @@ in_year year month from to =
     let e : 2000 + (year - 2000) ≡ year = omega arith in
     omega (arith, months_grow year month 12 to, ap (λ (y : ℕ). days_of_months y 12) e)
 
+-- the later of two times of a year has the greater number
+abbrev pub place_of : Time → ℕ
+place_of t = (t.month * 32 + t.day) * 1440 + t.minute
+
 module _ (s t : Time) (rs : Real s) (rt : Real t) where
   from_month : days_of_months s.year (s.month - 1) + s.day ≤ days_of_months s.year s.month
   from_month = in_month s.year s.month s.day rs.month-from rs.day-to
@@ -127,6 +131,26 @@ in_order_of_time s t a b =
       earlier-month s t rs rt,
       earlier-month t s rt rs,
       one-month s t rs rt,
+      rs.minute-to,
+      rt.minute-to,
+    )
+
+day_short : (t : Time) → Real t → t.day ≤ 31
+day_short t r =
+    let usual = month_usual t.year t.month r.month-from r.month-to in
+    omega (arith, r.day-to)
+
+-- and in one year their places, of months of 32 days, are
+pub in_order : (s t : Time) → Real s → Real t → s.year ≡ t.year → ltb (place_of s) (place_of t) ≡ ltb (minutes s) (minutes t)
+in_order s t rs rt same =
+    grind (
+      arith,
+      nat_tests,
+      earlier-month s t rs rt same,
+      earlier-month t s rt rs,
+      one-month s t rs rt same,
+      day_short s rs,
+      day_short t rt,
       rs.minute-to,
       rt.minute-to,
     )
