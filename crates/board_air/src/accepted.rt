@@ -26,12 +26,15 @@ fn finite_bits(word: u32) -> bool
     word % 0x8000_0000 < 0x7F80_0000
 }
 
-// Whether 360 words are finite numbers' bits.
+// Whether 360 words are finite numbers' bits: all are looked at, so that the compiler takes several in
+// a turn.
 fn row_ok(air: &[u32], at: usize) -> bool
     requires { at + 360 ≤ length air.now }
     ensures { result ≡ all_finite (row_in air.now at) }
 {
-    air[at..at + 360].iter().all(|word| finite_bits(*word))
+    air[at..at + 360]
+        .iter()
+        .fold(true, |ok, word| ok & finite_bits(*word))
 }
 
 // Whether place k has an id that no place before it has, and finite numbers.
@@ -52,12 +55,12 @@ fn stations_ok(air: &[u32], n: usize) -> bool
     (0..n).all(|k| station_ok(air, k))
 }
 
-// Whether all words from `at` on are 0.
+// Whether all words from `at` on are 0; all are looked at here too.
 fn blank_from(air: &[u32], at: usize) -> bool
     requires { at ≤ length air.now }
     ensures { result ≡ blank (drop at air.now) }
 {
-    air[at..].iter().all(|word| *word == 0)
+    air[at..].iter().fold(true, |ok, word| ok & (*word == 0))
 }
 
 // Inner step: of `board`'s test of all its words.

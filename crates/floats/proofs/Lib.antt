@@ -7,6 +7,7 @@ pub mod Filled
 pub mod Negation
 pub mod Opposites
 pub mod Finite
+pub mod Folded
 pub mod Unit
 pub mod TimesOne
 pub mod TimesUnit

@@ -1,12 +1,13 @@
-use Rattle.std.proofs.Common.{◌≡◌, ℕ, zero, suc, ◌≤◌, List, length, take, refl, add-one, arith, rules, tests}
+use Rattle.std.proofs.Common.{◌≡◌, ℕ, zero, suc, ◌≤◌, true, ◌&&◌, List, length, take, refl, add-one, arith, rules, tests}
 use Rattle.std.specs.Prelude.{Float}
 use Rattle.std.specs.Float.{nan}
 use Rattle.std.specs.Float.Ieee.Scale.{finite}
 use Rattle.std.specs.List.{list_all}
 use Rattle.std.proofs.lemmas.Iterator.{YieldsList-from_slice}
-use Rattle.std.proofs.lemmas.Iterator.Search.{all_from_yields_List}
+use Rattle.std.proofs.lemmas.Iterator.Consumers.{fold_from_yields_List}
 use Rattle.std.proofs.Math.Seq.{take-length}
 use Rattle.std.proofs.lemmas.List.Folds.{list_all_more}
+use Rattle.floats.proofs.Folded.{all-by-fold}
 use Rattle.floats.specs.Ranges.{finite_to, all_finite}
 use Rattle.floats.proofs.range.all_finite.Goals as goal
 
@@ -19,5 +20,5 @@ pub returns : goal.returns
 unfolding all_finite
 returns c =
     let l = c.args.s.now in
-    let e = all_from_yields_List finite _ _ _ c.all.ensures.ran (YieldsList-from_slice l cc) (λ x b q k. search (rules, tests)) in
-    rw (e, first_finite l (length l) (omega arith), take-length)
+    let e = fold_from_yields_List _ (λ ok x. ok && finite x) true _ c.fold.ensures.ran (YieldsList-from_slice l cc) (λ a x b q k. search (rules, tests)) in
+    rw (e, all-by-fold finite true l, first_finite l (length l) (omega arith), take-length)
