@@ -9,17 +9,21 @@ use answers::Refusal;
 use numeric::bits::{bits_of, float_of};
 use numeric::float::is_finite;
 
-// Whether the words are the bits of finite floats.
+// Whether the words are the bits of finite floats: all are looked at, so that the compiler takes several
+// in a turn.
 fn all_levels(words: &[u32]) -> bool
     ensures { result ≡ list_all is_level words.now }
 {
-    words.iter().all(|w| is_finite(float_of(*w)))
+    words
+        .iter()
+        .fold(true, |ok, w| ok & is_finite(float_of(*w)))
 }
 
+// Whether the words are 0; all are looked at here too.
 fn all_zero(words: &[u32]) -> bool
     ensures { result ≡ list_all is_zero words.now }
 {
-    words.iter().all(|w| *w == 0)
+    words.iter().fold(true, |ok, w| ok & (*w == 0))
 }
 
 #[tactic(auto, unfolding(crate::specs::State::next_ok))]
