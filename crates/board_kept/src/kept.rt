@@ -51,7 +51,7 @@ fn better(a: Entry, b: Entry) -> Entry
     let old = float_of(b.bits);
     let greater = old < new;
     let equal = old == new;
-    if b.id == 0 || greater || equal && a.id < b.id {
+    if (b.id == 0) | (greater | equal & (a.id < b.id)) {
         a
     } else {
         b
