@@ -1,3 +1,2 @@
 -- The number that is told is set-up's own.
-pub mod Untyped
 pub mod WhyNumber
