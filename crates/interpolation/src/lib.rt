@@ -4,11 +4,9 @@
 // steps of `setmaxgain`, which keeps what `gainterb` asks, a frequency in the band.
 ghost use Rattle.std.specs.Prelude.{◌≡◌, ◌<◌, ◌≤◌, true};
 ghost use Rattle.model.specs.Limits.{in_band};
-ghost use Rattle.model.specs.Types.{type_number};
 ghost use Rattle.interpolation.specs.Interpolation.{lower_mhz, gain_ter_b, frs, ratio_index, gain_terp1, ratio_ok, gain_terp};
 
 use floats::range::is_between;
-use model::types::AntennaType;
 
 // The whole MHz below freq; 29 at 30.
 #[tactic(auto, using(crate::proofs::Cuts::cut_band), unfolding(crate::specs::Interpolation::lower_mhz))]
@@ -35,12 +33,13 @@ pub fn gainterb(gainab: [f32; 30], freq: f32) -> f32
 
 // The frequency ratios of the three gains.
 #[tactic(auto, unfolding(crate::specs::Interpolation::frs))]
-fn ratios_of(kind: AntennaType) -> [f32; 3]
-    ensures { result ≡ frs (type_number kind) }
+fn ratios_of(iant: u32) -> [f32; 3]
+    ensures { result ≡ frs iant }
 {
-    match kind {
-        AntennaType::Multiband => [0.7, 1.0, 1.4],
-        _ => [0.85, 1.0, 1.2],
+    if iant == 1 {
+        [0.7, 1.0, 1.4]
+    } else {
+        [0.85, 1.0, 1.2]
     }
 }
 
@@ -55,10 +54,10 @@ fn ratio_index(fr: f32) -> usize
 
 // `gainterp1`: the maximum gain at the ratio fr by three gains at one frequency.
 #[tactic(auto, unfolding(crate::specs::Interpolation::gain_terp1))]
-pub fn gainterp1(gainaa: [f32; 3], fr: f32, kind: AntennaType) -> f32
-    ensures { result ≡ gain_terp1 gainaa fr (type_number kind) }
+pub fn gainterp1(gainaa: [f32; 3], fr: f32, iant: u32) -> f32
+    ensures { result ≡ gain_terp1 gainaa fr iant }
 {
-    let frs = ratios_of(kind);
+    let frs = ratios_of(iant);
     let idx = ratio_index(fr);
     let lo = gainaa[idx];
     let hi = gainaa[idx + 1];
@@ -67,26 +66,27 @@ pub fn gainterp1(gainaa: [f32; 3], fr: f32, kind: AntennaType) -> f32
 
 // Whether the gains cover the ratio.
 #[tactic(auto, unfolding(crate::specs::Interpolation::ratio_ok))]
-fn ratio_ok(kind: AntennaType, fr: f32) -> bool
-    ensures { result ≡ ratio_ok (type_number kind) fr }
+fn ratio_ok(iant: u32, fr: f32) -> bool
+    ensures { result ≡ ratio_ok iant fr }
 {
-    match kind {
-        AntennaType::Multiband => is_between(fr, 0.7, 1.4),
-        _ => is_between(fr, 0.85, 1.2),
+    if iant == 1 {
+        is_between(fr, 0.7, 1.4)
+    } else {
+        is_between(fr, 0.85, 1.2)
     }
 }
 
 // `gainterp`: the maximum gain between the row at 2 MHz and the row at 30 MHz (types 1 to 4, 8 and
 // 9); -30 where the ratio lies outside.
 #[tactic(auto, unfolding(crate::specs::Interpolation::gain_terp))]
-pub fn gainterp(gainmax: [f32; 6], foper: f32, fdesign: f32, kind: AntennaType) -> f32
-    ensures { result ≡ gain_terp gainmax foper fdesign (type_number kind) }
+pub fn gainterp(gainmax: [f32; 6], foper: f32, fdesign: f32, iant: u32) -> f32
+    ensures { result ≡ gain_terp gainmax foper fdesign iant }
 {
     let fr = foper / fdesign;
-    if !ratio_ok(kind, fr) {
+    if !ratio_ok(iant, fr) {
         return -30.0;
     }
-    let g1 = gainterp1([gainmax[0], gainmax[1], gainmax[2]], fr, kind);
-    let g2 = gainterp1([gainmax[3], gainmax[4], gainmax[5]], fr, kind);
+    let g1 = gainterp1([gainmax[0], gainmax[1], gainmax[2]], fr, iant);
+    let g2 = gainterp1([gainmax[3], gainmax[4], gainmax[5]], fr, iant);
     g1 + (g2 - g1) * (foper - 2.0) / 28.0
 }

@@ -87,7 +87,7 @@ fn by_ratio(parm: [f32; 20], kind: AntennaType, gainmax: [f32; 6], t: Tuning) ->
     ensures { result ≡ by_ratio parm (type_number kind) gainmax t }
 {
     Found {
-        gain: gainterp(gainmax, t.foper, t.fdesign, kind),
+        gain: gainterp(gainmax, t.foper, t.fdesign, u32::from(kind)),
         parm: tuned_slots(parm, kind, t),
     }
 }
