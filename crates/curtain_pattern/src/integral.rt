@@ -25,13 +25,15 @@ fn readings(ant: Curtain, t: f32) -> Read
     let e = elevation_at(ant, t);
     let mut p = -90.0 * D2R + D2R;
     let mut pint: f32 = 0.0;
+    let mut readings: u32 = 0;
     for k in 0..BETWEEN {
         pint += f2_at(ant, e, p);
+        readings += 1;
         p += D2R;
     }
     Read {
         value: pint,
-        readings: BETWEEN,
+        readings,
     }
 }
 
