@@ -43,5 +43,9 @@ pub fn check<'a>(model: &'a Model, table: &'a [f32], asked: Asked) -> Result<Che
     if !asked.own {
         return Err(Refusal::Table);
     }
-    Ok(Checked { kind, model, table })
+    Ok(Checked {
+        kind: Some(kind),
+        model,
+        table,
+    })
 }

@@ -9,7 +9,7 @@ use crate::record::Antenna;
 use crate::sum::has_sum;
 use answers::{Kind, Refusal};
 use numeric::float::is_finite;
-use pattern::gainrel::gainrel;
+use pattern::gainrel::relative_gain;
 
 // A gain in dBi with its kind.
 #[derive(Clone, Copy, Debug, PartialEq)]
@@ -104,7 +104,7 @@ pub fn gain_told(
 {
     let c = check(&ant.model, table, gain_asked(own, u, v, giso))?;
     let z6 = ant.peak.z6;
-    let z9 = gainrel(c, u, v);
+    let z9 = relative_gain(c, u, v);
     grade(z6, decibels(z9, z6, giso))
 }
 

@@ -20,7 +20,7 @@ use model::types::AntennaType;
 use parameters::constants::{constants_of, wave_constants, wavelength};
 use parameters::limits::{check, start_of};
 use parameters::whole::not_zero;
-use search::gainorm::{Search, gainorm};
+use search::gainorm::{Search, search_peak};
 use trig::trigfun;
 
 // The antenna record, and how often the search read the gain.
@@ -134,11 +134,11 @@ pub fn antinit2(parm: [f32; 20], lent: &mut [f32]) -> Result<SetUp, Refusal>
     let model = model_of(kind, parm);
     let table = table_of(model);
     let checked = Checked {
-        kind,
+        kind: Some(kind),
         model: &model,
         table: &table,
     };
-    let found = gainorm(checked, start_of(kind, parm));
+    let found = search_peak(checked, start_of(kind, parm));
     if search_refused(found) {
         return Err(Refusal::Pattern);
     }

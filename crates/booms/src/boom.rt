@@ -1,10 +1,12 @@
 // The log-periodic antennas, types 5 and 6, at one direction.
-ghost use Rattle.std.specs.Prelude.{◌≡◌, ◌≤◌, length};
+ghost use Rattle.std.specs.Prelude.{◌≡◌, ◌≤◌, true, List, length, Float};
+ghost use Rattle.model.specs.Counts.{elements_ok};
 ghost use Rattle.model.specs.Table.{table_size};
 ghost use Rattle.booms.specs.Boom.{entry_at, element_at, gamma_of, across_below, across_factor, upright_factor, add_across, add_upright, added, field_to, both_fields, one_field};
+ghost use Rattle.booms.specs.Lists.{element_by, elements_by};
 
 use model::checked::Checked;
-use model::record::{Constants, Direction, Elements, Entry};
+use model::record::{Constants, Direction, Entry};
 use model::table::{PART, ROW};
 
 const Q1: f32 = 3.1415927 / 180.0;
@@ -43,16 +45,23 @@ fn entry_at(table: &[f32], iu: usize, i: usize) -> Entry
 }
 
 // Element i.
-fn element_at(e: &Elements, i: usize) -> Element
+fn element_at<'a>(
+    fi: &'a [f32; 36],
+    rim: &'a [f32; 36],
+    x: &'a [f32; 36],
+    y: &'a [f32; 36],
+    rl: &'a [f32; 36],
+    i: usize,
+) -> Element
     requires { i ≤ 30 }
-    ensures { result ≡ element_at e.now i }
+    ensures { result ≡ element_by fi.now rim.now x.now y.now rl.now i }
 {
     Element {
-        rl: e.rl[i],
-        rim: e.rim[i],
-        fi: e.fi[i],
-        x: e.x[i],
-        y: e.y[i],
+        rl: rl[i],
+        rim: rim[i],
+        fi: fi[i],
+        x: x[i],
+        y: y[i],
     }
 }
 
@@ -148,14 +157,25 @@ fn add_element(
     add_across(fti, gamma * el.x + el.fi * Q1, w, s)
 }
 
-// The sums over the active elements. Inner step: of `pattern`.
-#[tactic(auto, using(model::proofs::ActiveElements::few_active, model::proofs::ActiveElements::named_below), unfolding(crate::specs::Boom::field_to))]
-pub fn field_of(c: Checked<'_>, upright: bool, iu: usize, d: Direction) -> Field
-    requires { iu ≤ 90 }
-    ensures { result ≡ field_to upright c.entry.model.now.constants c.entry.model.now.elements c.entry.table.now iu d c.entry.model.now.elements.nat }
+// The sums over the nat active elements, of the lists iek to rl, whatever their heights.
+#[tactic(auto, using(model::proofs::ActiveElements::active_below), unfolding(crate::specs::Boom::field_to))]
+pub fn field_of<'a>(
+    upright: bool,
+    k: Constants,
+    nat: usize,
+    iek: &'a [usize; 36],
+    fi: &'a [f32; 36],
+    rim: &'a [f32; 36],
+    x: &'a [f32; 36],
+    y: &'a [f32; 36],
+    rl: &'a [f32; 36],
+    table: &[f32],
+    iu: usize,
+    d: Direction,
+) -> Field
+    requires { (nat ≤ 30) × (elements_ok iek.now nat ≡ true) × (iu ≤ 90) × (table_size ≤ length table.now) }
+    ensures { (h : List Float) → result ≡ field_to upright k (elements_by iek.now fi.now rim.now x.now y.now rl.now h nat) table.now iu d nat }
 {
-    let k = c.model.constants;
-    let e = &c.model.elements;
     let gamma = gamma_of(k, d);
     let df = across_below(d);
     let mut s = Field {
@@ -164,12 +184,35 @@ pub fn field_of(c: Checked<'_>, upright: bool, iu: usize, d: Direction) -> Field
         sfr: 0.0,
         sfi: 0.0,
     };
-    for n in 0..e.nat {
-        let i = e.iek[n + 1];
-        let w = entry_at(c.table, iu, i);
-        s = add_element(upright, k.beta, gamma, df, d, element_at(e, i), w, s);
+    for n in 0..nat {
+        let i = iek[n + 1];
+        let el = element_at(fi, rim, x, y, rl, i);
+        s = add_element(upright, k.beta, gamma, df, d, el, entry_at(table, iu, i), s);
     }
     s
+}
+
+// The same of a record. Inner step: of `pattern`.
+#[tactic(auto, using(model::proofs::ActiveElements::few_active, model::proofs::ActiveElements::active_named))]
+pub fn active_field(c: Checked<'_>, upright: bool, iu: usize, d: Direction) -> Field
+    requires { iu ≤ 90 }
+    ensures { result ≡ field_to upright c.entry.model.now.constants c.entry.model.now.elements c.entry.table.now iu d c.entry.model.now.elements.nat }
+{
+    let e = &c.model.elements;
+    field_of(
+        upright,
+        c.model.constants,
+        e.nat,
+        &e.iek,
+        &e.fi,
+        &e.rim,
+        &e.x,
+        &e.y,
+        &e.rl,
+        c.table,
+        iu,
+        d,
+    )
 }
 
 // Type 5's gain from the sums.

@@ -17,8 +17,8 @@ use model::checked::Checked;
 use numeric::bits::bits_of;
 use numeric::float::is_finite;
 use parameters::whole::truncated;
-use pattern::gainrel::gainrel;
-use pattern::passes::around;
+use pattern::gainrel::relative_gain;
+use pattern::passes::gains_around;
 
 // A whole elevation from 0 to 90.
 #[tactic(auto, unfolding(crate::specs::Row::elevation_ok))]
@@ -56,10 +56,11 @@ fn is_plus_zero(x: f32) -> bool
 fn folds(c: Checked<'_>) -> bool
     ensures { result ≡ true → (c.entry.model.now.iant ≤ 6) × (c.entry.model.now.iant ≤ 4 → c.entry.model.now.constants.sl ≡ +0) }
 {
-    if c.kind.is_array() {
-        return is_plus_zero(c.model.constants.sl);
+    match c.kind {
+        Some(kind) if kind.is_array() => is_plus_zero(c.model.constants.sl),
+        Some(kind) => kind.is_log_periodic(),
+        None => false,
     }
-    c.kind.is_log_periodic()
 }
 
 // The numbers at the first n azimuths, worked out one by one.
@@ -68,7 +69,7 @@ fn filled(c: Checked<'_>, z6: f32, u: f32, giso: f32, n: u16) -> [f32; 360]
     requires { n ≤ 360 }
     ensures { result ≡ row_to c.entry.model.now z6 c.entry.table.now u giso n }
 {
-    let gains = around(c, u, n);
+    let gains = gains_around(c, u, n);
     let mut out = [0.0f32; 360];
     for v in 0..n as usize {
         out[v] = decibels(gains[v], z6, giso);
@@ -94,7 +95,7 @@ fn numbers(c: Checked<'_>, z6: f32, u: f32, giso: f32) -> [f32; 360]
 {
     if folds(c) {
         let half = filled(c, z6, u, giso, 181);
-        let west = decibels(gainrel(c, u, 270.0), z6, giso);
+        let west = decibels(relative_gain(c, u, 270.0), z6, giso);
         return folded(half, west);
     }
     filled(c, z6, u, giso, 360)

@@ -1,15 +1,16 @@
 // The search for the pattern's maximum, `azmax` and `gainorm`, with the count of its readings.
-// The elevation pass has its 90 gains from `up`.
-ghost use Rattle.std.specs.Prelude.{◌≡◌, ◌+◌, ◌^◌, ◌<◌};
-ghost use Rattle.model.specs.Types.{type_number};
+// The elevation pass has its 90 gains from `gains_up`.
+ghost use Rattle.std.specs.Prelude.{◌≡◌, ◌+◌, ◌^◌, ◌<◌, ◌≤◌, true, length};
+ghost use Rattle.model.specs.Counts.{counts_ok};
+ghost use Rattle.model.specs.Table.{table_size};
 ghost use Rattle.search.specs.Search.{untold, tallied, plateau_centre, azmax_read, turns_in, azmax_of, sweep_read, sweep_of, plane_elevation, plane_of, plane_searched, aim_of, elevation_read, elevations_of, wrapped, refined_of, unrefined, last_searched, gainorm_of};
 ghost use Rattle.search.specs.Turns.{turns, azmax_turn};
 
 use crate::record::Peak;
 use model::checked::Checked;
-use model::types::AntennaType;
-use pattern::gainrel::gainrel;
-use pattern::passes::up;
+use model::record::Model;
+use pattern::gainrel::relative_gain;
+use pattern::passes::gains_up;
 
 // The readings so far, and whether each of them was finite.
 #[derive(Clone, Copy)]
@@ -138,7 +139,7 @@ fn azmax_turns(c: Checked<'_>, u: f32, vm: f32, s: Azimuths, count: u32) -> Azim
 {
     let mut out = s;
     for i in 0..count {
-        out = azmax_read(out, vm, gainrel(c, u, out.v));
+        out = azmax_read(out, vm, relative_gain(c, u, out.v));
     }
     out
 }
@@ -204,19 +205,16 @@ fn sweep(c: Checked<'_>, u: f32, vmax: f32) -> Azimuths
         tally: no_tally(),
     };
     for i in 0..19u32 {
-        out = sweep_read(out, gainrel(c, u, out.v));
+        out = sweep_read(out, relative_gain(c, u, out.v));
     }
     out
 }
 
 #[tactic(auto, unfolding(crate::specs::Search::plane_elevation))]
-fn plane_elevation(kind: AntennaType) -> f32
-    ensures { result ≡ plane_elevation (type_number kind) }
+fn plane_elevation(iant: u32) -> f32
+    ensures { result ≡ plane_elevation iant }
 {
-    match kind {
-        AntennaType::Tropical => 45.0,
-        _ => 5.0,
-    }
+    if iant == 4 { 45.0 } else { 5.0 }
 }
 
 // The horizontal plane of a slewed or tropical pattern, from the start azimuth vmax.
@@ -225,7 +223,7 @@ fn plane(c: Checked<'_>, vmax: f32) -> Aimed
     ensures value { result ≡ plane_of c.entry.model.now c.entry.table.now vmax }
     ensures readings_bound { result.tally.readings < 2 ^ 32 }
 {
-    let u = plane_elevation(c.kind);
+    let u = plane_elevation(c.model.iant);
     let s = sweep(c, u, vmax);
     let v = s.vmax;
     let r = azmax(c, u, v - 10.0, v + 10.0, 1.0, s.rmax, v, s.tally);
@@ -236,14 +234,10 @@ fn plane(c: Checked<'_>, vmax: f32) -> Aimed
 }
 
 #[tactic(auto, unfolding(crate::specs::Search::plane_searched))]
-fn plane_searched(kind: AntennaType, slewed: bool) -> bool
-    ensures { result ≡ plane_searched (type_number kind) slewed }
+fn plane_searched(iant: u32, slewed: bool) -> bool
+    ensures { result ≡ plane_searched iant slewed }
 {
-    match kind {
-        AntennaType::Tropical => true,
-        AntennaType::Multiband | AntennaType::CentreFed | AntennaType::EndFed => slewed,
-        _ => false,
-    }
+    (iant == 4) | ((iant < 4) & slewed)
 }
 
 // The azimuth of the elevation pass.
@@ -252,7 +246,7 @@ fn aim(c: Checked<'_>, vmax: f32) -> Aimed
     ensures value { result ≡ aim_of c.entry.model.now c.entry.table.now vmax }
     ensures readings_bound { result.tally.readings < 2 ^ 32 }
 {
-    if plane_searched(c.kind, c.model.slewed) {
+    if plane_searched(c.model.iant, c.model.slewed) {
         return plane(c, vmax);
     }
     Aimed {
@@ -285,7 +279,7 @@ fn elevation_pass(c: Checked<'_>, v: f32, e: Elevations) -> Elevations
     ensures value { result ≡ elevations_of c.entry.model.now c.entry.table.now v e }
     ensures readings_value { result.tally.readings ≡ e.tally.readings + 90 }
 {
-    let gains = up(c, v);
+    let gains = gains_up(c, v);
     let mut out = e;
     for i in 0..90u16 {
         out = elevation_read(out, (i + 1) as f32, gains[i as usize]);
@@ -334,16 +328,16 @@ fn leave_unrefined(e: Elevations, v: f32) -> Search
 }
 
 #[tactic(auto, unfolding(crate::specs::Search::last_searched))]
-fn last_searched(kind: AntennaType, slewed: bool) -> bool
-    ensures { result ≡ last_searched (type_number kind) slewed }
+fn last_searched(iant: u32, slewed: bool) -> bool
+    ensures { result ≡ last_searched iant slewed }
 {
-    slewed | matches!(kind, AntennaType::Tropical)
+    slewed | (iant == 4)
 }
 
 // `gainorm`: the pattern's maximum, from the start values of umax and vmax. Inner step: its model
 // and its table are those that set-up has made.
 #[tactic(auto, unfolding(crate::specs::Search::gainorm_of, crate::specs::Search::raised_of))]
-pub fn gainorm(c: Checked<'_>, start: Peak) -> Search
+pub fn search_peak(c: Checked<'_>, start: Peak) -> Search
     ensures { result ≡ gainorm_of c.entry.model.now c.entry.table.now start }
 {
     let a = aim(c, start.vmax);
@@ -353,9 +347,17 @@ pub fn gainorm(c: Checked<'_>, start: Peak) -> Search
         tally: a.tally,
     };
     let e = elevation_pass(c, a.vmax, level);
-    if last_searched(c.kind, c.model.slewed) {
+    if last_searched(c.model.iant, c.model.slewed) {
         refine(c, e, a.vmax)
     } else {
         leave_unrefined(e, a.vmax)
     }
+}
+
+// The same of a record that is taken by value.
+pub fn gainorm(m: Model, table: &[f32], start: Peak) -> Search
+    requires { (counts_ok m ≡ true) × (table_size ≤ length table.now) }
+    ensures { result ≡ gainorm_of m table.now start }
+{
+    search_peak(Checked::of(&m, table), start)
 }

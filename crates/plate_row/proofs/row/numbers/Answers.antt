@@ -25,4 +25,4 @@ unfolding number_at
 returns-then-folds c =
     let grounds = c.folds.ensures c.if-folds.true in
     c.folded.ensures _ (numbers-mirror _ _ _ _ _ grounds) c.filled-half.ensures
-    (rw (c.decibels-west.ensures, c.gainrel.ensures, at_270))
+    (rw (c.decibels-west.ensures, c.relative_gain.ensures, at_270))
