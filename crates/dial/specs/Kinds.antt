@@ -1,5 +1,5 @@
 -- What an entry of a plate's row is. Definitions only.
-use Rattle.std.specs.Prelude.{Bool, true, false}
+use Rattle.std.specs.Prelude.{ℕ, Bool, true, false, cond, eqb}
 use Rattle.answers.specs.declared.Kind.{Kind}
 use Rattle.answers.specs.declared.Kind.TheVariants as kind
 
@@ -17,3 +17,7 @@ abbrev pub is_silence : Kind → Bool
 is_silence kind.Level = false
 is_silence kind.Floor = false
 is_silence kind.Silence = true
+
+-- what a code stands for: 0 a level, 1 a floor, any more a silence
+unfoldable pub coded : ℕ → Kind
+coded code = cond (eqb code 0) kind.Level (cond (eqb code 1) kind.Floor kind.Silence)

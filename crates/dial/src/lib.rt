@@ -5,7 +5,8 @@
 // `top_of`; no gain of the row is above the top: `top_above`), and how far from the centre a gain lies
 // (`radius_of`, specs/Scale.antt; proofs/Laws.antt). Gains are hundredths of dBi, raised by 100,000 as
 // crate `hundredths` has them.
-ghost use Rattle.std.specs.Prelude.{◌≡◌, ◌≤◌, ◌<◌};
+ghost use Rattle.std.specs.Prelude.{◌≡◌, ◌≤◌, ◌<◌, map};
+ghost use Rattle.dial.specs.Kinds.{coded};
 ghost use Rattle.dial.specs.Scale.{better_of, peak_azimuth, top_of, bottom_of, span_of, radius_of};
 
 use answers::Kind;
@@ -15,6 +16,29 @@ use answers::Kind;
 pub struct Row {
     pub numbers: [u32; 360],
     pub kinds: [Kind; 360],
+}
+
+// A code above 1 is a silence, as in a row of a plate.
+#[tactic(auto, unfolding(crate::specs::Kinds::coded))]
+fn kind_of(code: u8) -> Kind
+    ensures { result ≡ coded code }
+{
+    match code {
+        0 => Kind::Level,
+        1 => Kind::Floor,
+        _ => Kind::Silence,
+    }
+}
+
+// Inner step: a row whose kinds are told by their codes.
+pub fn coded_row(numbers: &[u32; 360], codes: &[u8; 360]) -> Row
+    ensures numbers { result.numbers ≡ numbers.now }
+    ensures kinds { result.kinds ≡ map coded codes.now }
+{
+    Row {
+        numbers: *numbers,
+        kinds: codes.map(kind_of),
+    }
 }
 
 // Inner step: of two azimuths the one whose number is greater.
