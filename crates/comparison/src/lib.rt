@@ -11,7 +11,7 @@ ghost use Rattle.words.specs.Writing.{Put};
 ghost use Rattle.comparison.specs.Lines.{lines_of};
 
 use dial::Row;
-use figures::leads;
+use figures::leads_over;
 use lines::{push_base, push_masts, push_round};
 use masts::{at_base, mast_of};
 use words::page::Page;
@@ -25,7 +25,7 @@ pub fn push_lines<const N: usize>(page: &mut Page<N>, base: u32, a: &Row, b: &Ro
     let v = base as usize;
     push_base(page, base, at_base(a, b, v), at_base(b, a, v));
     push_masts(page, mast_of(b'A', a), mast_of(b'B', b));
-    let first_leads = leads(a, b);
-    let second_leads = leads(b, a);
+    let first_leads = leads_over(a, &b.numbers);
+    let second_leads = leads_over(b, &a.numbers);
     push_round(page, first_leads as u32, second_leads as u32);
 }

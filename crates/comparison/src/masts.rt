@@ -55,7 +55,7 @@ pub(crate) fn at_base(row: &Row, other: &Row, v: usize) -> AtBase
 {
     AtBase {
         gain: reading_at(row, v),
-        leads: leads_at(row, other, v),
+        leads: leads_at(row, &other.numbers, v),
     }
 }
 

@@ -5,14 +5,16 @@
 // beam is at 3 dB (`beam_of`; at most 360: `beam_most`), and in how many azimuths one row leads another
 // (`leads_of`; two rows never lead each other at once: `leads-apart`, `leads_sum`). Definitions in
 // specs/Figures.antt, laws in proofs/Laws.antt. Rows are 360 raised hundredths as crate `hundredths` has
-// them, with kinds; all is said of any numbers.
-ghost use Rattle.std.specs.Prelude.{◌≡◌, ◌+◌, ◌-◌, ◌≤◌, ◌<◌, leb, length};
+// them, with kinds, as `dial::Row` has them or by their codes, 0 a level, 1 a floor, more a silence; all is
+// said of any numbers.
+ghost use Rattle.std.specs.Prelude.{◌≡◌, ◌+◌, ◌-◌, ◌≤◌, ◌<◌, leb, length, map};
+ghost use Rattle.dial.specs.Kinds.{coded};
 ghost use Rattle.dial.specs.Scale.{peak_azimuth};
 ghost use Rattle.words.specs.Writing.{Put};
 ghost use Rattle.figures.specs.Figures.{behind_of, difference, steps_of, beam_of, leads_at, leads_of};
 
 use answers::Kind;
-use dial::{Row, better, peak_azimuth};
+use dial::{Row, better, coded_row, peak_azimuth};
 use hundredths::decimals::push_hundredths;
 use words::page::Page;
 
@@ -78,19 +80,19 @@ pub fn beam(numbers: &[u32; 360]) -> usize
     clockwise + 1 + steps(numbers, peak_at, 359)
 }
 
-// Inner step: whether the first row leads the second at an azimuth.
+// Inner step: whether a row leads another's numbers at an azimuth.
 #[tactic(auto, unfolding(crate::specs::Figures::leads_at))]
-pub fn leads_at(first: &Row, second: &Row, v: usize) -> bool
+pub fn leads_at(first: &Row, second: &[u32; 360], v: usize) -> bool
     requires { v < 360 }
-    ensures { result ≡ leads_at first.now.numbers first.now.kinds second.now.numbers v }
+    ensures { result ≡ leads_at first.now.numbers first.now.kinds second.now v }
 {
-    matches!(first.kinds[v], Kind::Level) && second.numbers[v] < first.numbers[v]
+    matches!(first.kinds[v], Kind::Level) && second[v] < first.numbers[v]
 }
 
-// In how many azimuths the first row leads the second.
+// Inner step: in how many azimuths a row leads another's numbers.
 #[tactic(auto, using(crate::proofs::Laws::count_none, crate::proofs::Laws::count_more), unfolding(crate::specs::Figures::leads_of))]
-pub fn leads(first: &Row, second: &Row) -> usize
-    ensures { (result ≡ leads_of first.now.numbers first.now.kinds second.now.numbers) × (result ≤ 360) }
+pub fn leads_over(first: &Row, second: &[u32; 360]) -> usize
+    ensures { (result ≡ leads_of first.now.numbers first.now.kinds second.now) × (result ≤ 360) }
 {
     // a loop: of `(0..360).filter(..).count()` the search unfolds all 360 numbers, and gives up
     let mut n = 0;
@@ -100,4 +102,11 @@ pub fn leads(first: &Row, second: &Row) -> usize
         }
     }
     n
+}
+
+// In how many azimuths the first row, with its kinds by their codes, leads the second.
+pub fn leads(first: &[u32; 360], kinds: &[u8; 360], second: &[u32; 360]) -> usize
+    ensures { (result ≡ leads_of first.now (map coded kinds.now) second.now) × (result ≤ 360) }
+{
+    leads_over(&coded_row(first, kinds), second)
 }

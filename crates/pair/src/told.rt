@@ -9,7 +9,7 @@ use answers::Kind;
 use captions::Heading;
 use curve::has_floor;
 use dial::{Row, peak_azimuth};
-use figures::{beam, behind, leads};
+use figures::{beam, behind, leads_over};
 use table::column::{Figures, Shape, Shown, push_table};
 use table::legend::{push_dashed, push_legend};
 use words::page::Page;
@@ -51,10 +51,10 @@ fn shape_of(row: &Row) -> Shape
 
 // What is known of a mast beside the other one's row.
 #[tactic(auto, unfolding(crate::specs::Told::figures_of))]
-fn figures_of(heading: Heading, row: &Row, other: &Row) -> Figures
-    ensures { result ≡ figures_of heading row.now.numbers row.now.kinds other.now.numbers }
+fn figures_of(heading: Heading, row: &Row, other: &[u32; 360]) -> Figures
+    ensures { result ≡ figures_of heading row.now.numbers row.now.kinds other.now }
 {
-    let led = leads(row, other);
+    let led = leads_over(row, other);
     Figures {
         heading,
         shape: shape_of(row),
@@ -74,8 +74,8 @@ pub fn push_told<const N: usize>(
     requires { length page.old + 1412 ≤ N }
     ensures { Put 1412 page.old (told_text first.now.numbers first.now.kinds first_heading second.now.numbers second.now.kinds second_heading) page.new }
 {
-    let f = figures_of(first_heading, first, second);
-    let g = figures_of(second_heading, second, first);
+    let f = figures_of(first_heading, first, &second.numbers);
+    let g = figures_of(second_heading, second, &first.numbers);
     let floors = has_floor(&first.kinds) | has_floor(&second.kinds);
     push_legend(page, first_heading.antenna, second_heading.antenna);
     push_dashed(page, floors);
