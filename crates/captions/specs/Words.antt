@@ -74,6 +74,10 @@ all_floor_text = quoted "<text x='150' y='7820'>floor all round: -30 dBi or less
 unfoldable pub silence_text : List ℕ
 silence_text = quoted "<text x='4000' y='2800' font-size='600' text-anchor='middle' stroke='#fff' stroke-width='160' paint-order='stroke'>silence</text>\n"
 
+-- which of two masts a refusal is of, by a number: 1 the first, 2 the second; any other number is a mast by itself
+unfoldable pub mast_numbered : ℕ → Option Mast
+mast_numbered n = cond (eqb n 1) (Some mast.A) (cond (eqb n 2) (Some mast.B) None)
+
 -- which of two masts a refusal is of, where there are two
 unfoldable pub mast_of : Option Mast → List ℕ
 mast_of None = []

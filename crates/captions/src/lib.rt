@@ -5,11 +5,9 @@
 // `foot_text`), what grey and dashes are (`fold_text`, `dashed_text`), a row without a level (`all_floor_text`,
 // `silence_text`), and the sentence of a refusal (`sentence_of`).
 ghost use Rattle.std.specs.Prelude.{◌≡◌, ◌+◌, ◌≤◌, length};
-ghost use Rattle.answers.specs.Outcome.{number};
 ghost use Rattle.words.specs.Writing.{Put};
-ghost use Rattle.captions.specs.Words.{name_of, winds_text, head_text, dot_text, foot_text, fold_text, dashed_text, all_floor_text, silence_text, shown_where, mast_of, sentence_of};
+ghost use Rattle.captions.specs.Words.{name_of, winds_text, head_text, dot_text, foot_text, fold_text, dashed_text, all_floor_text, silence_text, shown_where, mast_numbered, mast_of, sentence_of};
 
-use answers::Refusal;
 use compass::Point;
 use figures::push_difference;
 use labels::{push_reading, push_whole};
@@ -178,6 +176,18 @@ pub enum Mast {
     B,
 }
 
+// Inner step: which mast a number is, 1 the first, 2 the second, any other none.
+#[tactic(auto, unfolding(crate::specs::Words::mast_numbered))]
+pub fn mast_numbered(number: u8) -> Option<Mast>
+    ensures { result ≡ mast_numbered number }
+{
+    match number {
+        1 => Some(Mast::A),
+        2 => Some(Mast::B),
+        _ => None,
+    }
+}
+
 #[tactic(auto, unfolding(crate::specs::Words::mast_of, quoted::specs::Quoted::quoted))]
 fn name_of_mast(mast: Option<Mast>) -> &'static [u8]
     ensures { (result.now ≡ mast_of mast) × (length result.now ≤ 3) }
@@ -199,36 +209,30 @@ pub fn push_mast<const N: usize>(page: &mut Page<N>, mast: Option<Mast>)
 }
 
 #[tactic(auto, unfolding(crate::specs::Words::sentence_of, crate::specs::Words::beside, quoted::specs::Quoted::quoted))]
-fn sentence(refusal: Refusal) -> &'static [u8]
-    ensures { (result.now ≡ sentence_of (number refusal)) × (length result.now ≤ 60) }
+fn sentence(number: u32) -> &'static [u8]
+    ensures { (result.now ≡ sentence_of number) × (length result.now ≤ 60) }
 {
-    match refusal {
-        Refusal::Record => b"this is no station of 237 bytes, and no good card",
-        Refusal::Value => b"a number of the station isn't finite",
-        Refusal::Type => b"the type is not 1 to 9, nor is this a curtain",
-        Refusal::Mode => b"there is no such mode of the maximum gain",
-        Refusal::Band => b"the MHz or the design MHz is under 1, or 31 or more",
-        Refusal::Count => b"dipoles are not 0 to 64, or elements not 2 to 30",
-        Refusal::Aim => b"elevation not a whole 0 to 90, or wrong slew or start",
-        Refusal::Space => b"the space for the answer is too short",
-        Refusal::Pattern => b"a gain in the search isn't finite: is a size 0?",
-        Refusal::Level => b"a gain isn't finite",
-        Refusal::Span => b"a gain is beyond 1,000 dBi or -1,000 dBi",
-        Refusal::Calendar
-        | Refusal::Row
-        | Refusal::Gap
-        | Refusal::Overlap
-        | Refusal::Table
-        | Refusal::Call
-        | Refusal::Full => b"",
+    match number {
+        1 => b"this is no station of 237 bytes, and no good card",
+        2 => b"a number of the station isn't finite",
+        3 => b"the type is not 1 to 9, nor is this a curtain",
+        4 => b"there is no such mode of the maximum gain",
+        5 => b"the MHz or the design MHz is under 1, or 31 or more",
+        6 => b"dipoles are not 0 to 64, or elements not 2 to 30",
+        7 => b"elevation not a whole 0 to 90, or wrong slew or start",
+        8 => b"the space for the answer is too short",
+        9 => b"a gain in the search isn't finite: is a size 0?",
+        10 => b"a gain isn't finite",
+        18 => b"a gain is beyond 1,000 dBi or -1,000 dBi",
+        _ => b"",
     }
 }
 
-// Inner step: why a plate was refused.
+// Inner step: why a plate was refused, by the refusal's number; none but a plate's has words.
 #[tactic(auto, using(words::proofs::Writing::shorter))]
-pub fn push_sentence<const N: usize>(page: &mut Page<N>, refusal: Refusal)
+pub fn push_sentence<const N: usize>(page: &mut Page<N>, number: u32)
     requires { length page.old + 60 ≤ N }
-    ensures { Put 60 page.old (sentence_of (number refusal)) page.new }
+    ensures { Put 60 page.old (sentence_of number) page.new }
 {
-    page.push_bytes(sentence(refusal));
+    page.push_bytes(sentence(number));
 }

@@ -7,12 +7,13 @@
 pub mod drawn;
 pub mod told;
 
-ghost use Rattle.std.specs.Prelude.{◌+◌, ◌≤◌, ◌≡◌, length, take};
+ghost use Rattle.std.specs.Prelude.{◌+◌, ◌≤◌, ◌≡◌, length, take, map};
 ghost use Rattle.words.specs.Writing.{Put, Wrote};
+ghost use Rattle.dial.specs.Kinds.{coded};
 ghost use Rattle.pair.specs.Pair.{greater_peak, pair_of, pair_in};
 
 use captions::Heading;
-use dial::Row;
+use dial::{Row, coded_row};
 use drawn::push_drawn;
 use told::{greater_peak, push_told};
 use words::page::{Page, put_page};
@@ -37,7 +38,7 @@ fn push_pair<const N: usize>(
 // Writes the picture of two rows from the buffer's start on, and returns its length. A buffer of under
 // 131,072 bytes gets nothing, nor do rows one of whose peaks is over 1,000 dBi.
 #[tactic(auto, using(words::proofs::Writing::wrote_none), unfolding(crate::specs::Pair::pair_in))]
-pub fn pair(
+pub fn pair_of_rows(
     first: &Row,
     first_heading: Heading,
     second: &Row,
@@ -65,4 +66,27 @@ pub fn pair(
         peak,
     );
     put_page(&page, out)
+}
+
+// The same of two rows' numbers, in raised hundredths of dBi, and their kinds by their codes: 0 a level, 1
+// a floor, more a silence.
+pub fn pair(
+    first: &[u32; 360],
+    first_kinds: &[u8; 360],
+    first_heading: Heading,
+    second: &[u32; 360],
+    second_kinds: &[u8; 360],
+    second_heading: Heading,
+    out: &mut [u8],
+) -> usize
+    ensures text { Wrote out.old 0 (pair_in (length out.old) first.now (map coded first_kinds.now) first_heading second.now (map coded second_kinds.now) second_heading) out.new result }
+    ensures within { (result ≤ length out.new) × (result ≡ length (take result out.new)) }
+{
+    pair_of_rows(
+        &coded_row(first, first_kinds),
+        first_heading,
+        &coded_row(second, second_kinds),
+        second_heading,
+        out,
+    )
 }

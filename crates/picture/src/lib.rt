@@ -5,20 +5,22 @@
 // it (`captions`); a silence is an empty plate with the word, a refusal its sentence. The text is
 // `picture_in` and `refusal_in` (specs/Picture.antt), for any numbers. What is told is the row's: the peak is
 // its greatest number, at the azimuth told, with the dot on the curve there (`told`, proofs/Laws.antt).
-ghost use Rattle.std.specs.Prelude.{◌+◌, ◌≤◌, ◌<◌, ◌≡◌, length, take};
+ghost use Rattle.std.specs.Prelude.{◌+◌, ◌≤◌, ◌<◌, ◌≡◌, length, take, map};
 ghost use Rattle.answers.specs.Outcome.{number};
 ghost use Rattle.words.specs.Writing.{Put, Wrote};
+ghost use Rattle.dial.specs.Kinds.{coded};
 ghost use Rattle.dial.specs.Scale.{peak_azimuth, peak_of};
+ghost use Rattle.captions.specs.Words.{mast_numbered};
 ghost use Rattle.picture.specs.Picture.{open_text, beside_text, peak_text, told_text, drawn_text, silent_text, body_text, picture_of, picture_in, refusal_of, refusal_in};
 
 use answers::{Kind, Refusal};
 use captions::{
-    Heading, Mast, push_all_floor, push_dashed_key, push_dot, push_fold_key, push_foot, push_head,
-    push_mast, push_sentence, push_silence, push_winds,
+    Heading, Mast, mast_numbered, push_all_floor, push_dashed_key, push_dot, push_fold_key,
+    push_foot, push_head, push_mast, push_sentence, push_silence, push_winds,
 };
 use compass::point_at;
 use curve::{has_floor, push_curve};
-use dial::{Row, peak_azimuth, radius};
+use dial::{Row, coded_row, peak_azimuth, radius};
 use figures::behind;
 use labels::push_whole;
 use rings::{push_labels, push_scale, stands_within};
@@ -137,7 +139,7 @@ impl Plate<'_> {
 // the mirror law folds over. A buffer of under 65,536 bytes gets nothing, nor does a row whose peak is
 // over 1,000 dBi.
 #[tactic(auto, using(words::proofs::Writing::wrote_none), unfolding(crate::specs::Picture::picture_in, dial::specs::Scale::peak_of))]
-pub fn picture(row: &Row, fold: bool, heading: Heading, out: &mut [u8]) -> usize
+pub fn picture_of_row(row: &Row, fold: bool, heading: Heading, out: &mut [u8]) -> usize
     ensures text { Wrote out.old 0 (picture_in (length out.old) row.now.numbers row.now.kinds fold heading) out.new result }
     // what a caller needs to lend the text on, as `&out[..r]`
     ensures within { (result ≤ length out.new) × (result ≡ length (take result out.new)) }
@@ -162,31 +164,61 @@ pub fn picture(row: &Row, fold: bool, heading: Heading, out: &mut [u8]) -> usize
     put_page(&page, out)
 }
 
-// The sentence of a refusal, of one of two masts where there are two.
-fn push_refusal<const N: usize>(page: &mut Page<N>, mast: Option<Mast>, refusal: Refusal)
+// The same of a row's numbers, in raised hundredths of dBi, and its kinds by their codes: 0 a level, 1 a
+// floor, more a silence.
+pub fn picture(
+    numbers: &[u32; 360],
+    kinds: &[u8; 360],
+    fold: bool,
+    h: Heading,
+    out: &mut [u8],
+) -> usize
+    ensures text { Wrote out.old 0 (picture_in (length out.old) numbers.now (map coded kinds.now) fold h) out.new result }
+    ensures within { (result ≤ length out.new) × (result ≡ length (take result out.new)) }
+{
+    picture_of_row(&coded_row(numbers, kinds), fold, h, out)
+}
+
+// The sentence of a refusal by its number, of one of two masts where there are two.
+fn push_refusal<const N: usize>(page: &mut Page<N>, mast: Option<Mast>, number: u32)
     requires { length page.old + 500 ≤ N }
-    ensures { Put 500 page.old (refusal_of mast (number refusal)) page.new }
+    ensures { Put 500 page.old (refusal_of mast number) page.new }
 {
     push_open(page);
     page.push_bytes(b"<text x='4000' y='3700' font-size='600' text-anchor='middle'>");
     push_mast(page, mast);
-    push_whole(page, b"refused ", u8::from(refusal) as u32);
+    push_whole(page, b"refused ", number);
     page.push_bytes(b"</text>\n<text x='4000' y='4300' font-size='280' text-anchor='middle'>");
-    push_sentence(page, refusal);
+    push_sentence(page, number);
     page.push_bytes(b"</text>\n</svg>\n");
 }
 
-// Writes the picture of a refusal, of one of two masts where there are two, from the buffer's start on,
-// and returns its length. A buffer of under 65,536 bytes gets nothing.
 #[tactic(auto, using(words::proofs::Writing::wrote_none), unfolding(crate::specs::Picture::refusal_in))]
-pub fn refusal_picture(mast: Option<Mast>, refusal: Refusal, out: &mut [u8]) -> usize
-    ensures text { Wrote out.old 0 (refusal_in (length out.old) mast (number refusal)) out.new result }
+fn put_refusal(mast: Option<Mast>, number: u32, out: &mut [u8]) -> usize
+    ensures text { Wrote out.old 0 (refusal_in (length out.old) mast number) out.new result }
     ensures within { (result ≤ length out.new) × (result ≡ length (take result out.new)) }
 {
     if out.len() < 65536 {
         return 0;
     }
     let mut page: Page<500> = Page::new();
-    push_refusal(&mut page, mast, refusal);
+    push_refusal(&mut page, mast, number);
     put_page(&page, out)
+}
+
+// Writes the picture of a refusal, of one of two masts where there are two, from the buffer's start on,
+// and returns its length. A buffer of under 65,536 bytes gets nothing.
+pub fn refusal_drawn(mast: Option<Mast>, refusal: Refusal, out: &mut [u8]) -> usize
+    ensures text { Wrote out.old 0 (refusal_in (length out.old) mast (number refusal)) out.new result }
+    ensures within { (result ≤ length out.new) × (result ≡ length (take result out.new)) }
+{
+    put_refusal(mast, u8::from(refusal) as u32, out)
+}
+
+// The same by the refusal's number, any at all, and the mast's: 1 `A`, 2 `B`, any other none.
+pub fn refusal_picture(mast: u8, number: u32, out: &mut [u8]) -> usize
+    ensures text { Wrote out.old 0 (refusal_in (length out.old) (mast_numbered mast) number) out.new result }
+    ensures within { (result ≤ length out.new) × (result ≡ length (take result out.new)) }
+{
+    put_refusal(mast_numbered(mast), number, out)
 }

@@ -15,8 +15,8 @@ ghost use Rattle.svg_text.specs.Output.{plate_for, masts_for, output_in};
 use answers::Refusal;
 use heading::Heading;
 use masts::{Mast, read_mast};
-use pair::pair;
-use picture::{picture, refusal_picture};
+use pair::pair_of_rows;
+use picture::{picture_of_row, refusal_drawn};
 
 // What stands above the plate.
 #[tactic(auto, unfolding(crate::specs::Svg::caption_of))]
@@ -40,11 +40,11 @@ pub fn svg(input: &[u8], fold: bool, text: &mut [u8]) -> usize
     ensures within { (result ≤ length text.new) × (result ≡ length (take result text.new)) }
 {
     match read_mast(input) {
-        Err(r) => refusal_picture(None, r, text),
+        Err(r) => refusal_drawn(None, r, text),
         Ok(m) => {
             let folded = fold & m.heading.mirrored;
             let caption = caption_for(m.heading);
-            picture(&m.row, folded, caption, text)
+            picture_of_row(&m.row, folded, caption, text)
         }
     }
 }
@@ -56,11 +56,11 @@ fn svg_beside(first: Mast, second: &[u8], text: &mut [u8]) -> usize
     ensures within { (result ≤ length text.new) × (result ≡ length (take result text.new)) }
 {
     match read_mast(second) {
-        Err(r) => refusal_picture(Some(captions::Mast::B), r, text),
+        Err(r) => refusal_drawn(Some(captions::Mast::B), r, text),
         Ok(m) => {
             let above = caption_for(first.heading);
             let below = caption_for(m.heading);
-            pair(&first.row, above, &m.row, below, text)
+            pair_of_rows(&first.row, above, &m.row, below, text)
         }
     }
 }
@@ -76,7 +76,7 @@ pub fn svg_two(first: &[u8], second: &[u8], text: &mut [u8]) -> usize
         return 0;
     }
     match read_mast(first) {
-        Err(r) => refusal_picture(Some(captions::Mast::A), r, text),
+        Err(r) => refusal_drawn(Some(captions::Mast::A), r, text),
         Ok(m) => svg_beside(m, second, text),
     }
 }
@@ -89,7 +89,7 @@ fn asked_plate(input: &[u8], text: &mut [u8]) -> usize
     ensures within { (result ≤ length text.new) × (result ≡ length (take result text.new)) }
 {
     if 1 < input[0] {
-        return refusal_picture(None, Refusal::Record, text);
+        return refusal_drawn(None, Refusal::Record, text);
     }
     svg(&input[1..238], input[0] == 1, text)
 }
@@ -102,7 +102,7 @@ fn asked_masts(input: &[u8], text: &mut [u8]) -> usize
     ensures within { (result ≤ length text.new) × (result ≡ length (take result text.new)) }
 {
     if input[0] != 2 {
-        return refusal_picture(None, Refusal::Record, text);
+        return refusal_drawn(None, Refusal::Record, text);
     }
     svg_two(&input[1..238], &input[238..475], text)
 }
@@ -121,6 +121,6 @@ pub fn output(input: &[u8], text: &mut [u8]) -> usize
     match input.len() {
         238 => asked_plate(input, text),
         475 => asked_masts(input, text),
-        _ => refusal_picture(None, Refusal::Record, text),
+        _ => refusal_drawn(None, Refusal::Record, text),
     }
 }

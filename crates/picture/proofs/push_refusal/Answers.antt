@@ -9,6 +9,5 @@ pub returns : goal.returns
 unfolding refusal_of quoted
 returns g c =
     let mast = joined (joined c.push_open.ensures c.push_bytes.ensures) c.push_mast.ensures in
-    let told = rw c.from.ensures at c.push_whole.ensures in
-    let number = joined (joined mast told) c.push_bytes-2.ensures in
+    let number = joined (joined mast c.push_whole.ensures) c.push_bytes-2.ensures in
     at_most (joined (joined number c.push_sentence.ensures) c.push_bytes-3.ensures) (omega arith)
