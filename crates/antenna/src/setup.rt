@@ -76,7 +76,7 @@ fn elements_of(kind: AntennaType, p: [f32; 20]) -> LogPeriodic
         let nel = numeric::float::to_usize(p[5]);
         let rlambda = wavelength(p);
         let beta = wave_constants(p).beta;
-        return logparm(kind, nel, design_of(p), rlambda, beta);
+        return logparm(u32::from(kind), nel, design_of(p), rlambda, beta);
     }
     no_elements()
 }
@@ -101,7 +101,7 @@ fn model_of(kind: AntennaType, p: [f32; 20]) -> Model
     let boom = l.boom;
     let constants = constants_of(kind, p, boom);
     let trig = trigfun();
-    let ground = ground_of(kind, constants, trig);
+    let ground = ground_of(u32::from(kind), constants, trig);
     Model {
         iant: u32::from(kind),
         slewed: slewed(kind, p),

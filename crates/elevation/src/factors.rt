@@ -1,12 +1,10 @@
 // `parmprec` at one elevation: the ground-reflection factors of all types but the log-periodic
 // ones, 5 and 6.
 ghost use Rattle.std.specs.Prelude.{◌≡◌};
-ghost use Rattle.model.specs.Types.{type_number};
 ghost use Rattle.elevation.specs.Factors.{single, stack_to, stack_of, mixed, bare, no_factors, factors_at};
 
 use crate::reflection::{Reflection, refcof};
 use model::record::{Constants, Factors};
-use model::types::AntennaType;
 
 // The summed cosines, w1, and sines, w2, of a stack of dipoles over ground.
 #[derive(Clone, Copy)]
@@ -45,17 +43,15 @@ fn stacked(h1: f32, pfra: f32, n: u32) -> Stack
 
 // A type's dipoles at the elevation whose sine is a0.
 #[tactic(auto, unfolding(crate::specs::Factors::stack_of))]
-fn stack_of(kind: AntennaType, k: Constants, a0: f32) -> Stack
-    ensures { result ≡ stack_of (type_number kind) k a0 }
+fn stack_of(iant: u32, k: Constants, a0: f32) -> Stack
+    ensures { result ≡ stack_of iant k a0 }
 {
     let pfra = k.pfr * a0 * 2.0;
-    match kind {
-        AntennaType::Multiband | AntennaType::CentreFed | AntennaType::EndFed => {
-            let count = floats::rounding::nint(k.r3 - 1.0);
-            stacked(k.h1, pfra, floats::rounding::turns(count))
-        }
-        _ => one_dipole(k.h1, pfra),
+    if iant >= 4 {
+        return one_dipole(k.h1, pfra);
     }
+    let count = floats::rounding::nint(k.r3 - 1.0);
+    stacked(k.h1, pfra, floats::rounding::turns(count))
 }
 
 // The dipoles with their reflection.
@@ -107,19 +103,14 @@ fn no_factors() -> Factors
     }
 }
 
-// At the elevation whose sine and cosine are a0 and b0.
+// At the elevation whose sine and cosine are a0 and b0. The source counts 0 among the arrays.
 #[tactic(auto, unfolding(crate::specs::Factors::factors_at, crate::specs::Factors::over_ground, model::specs::Types::array_type, model::specs::Types::crossed_type))]
-pub fn factors_at(kind: AntennaType, k: Constants, a0: f32, b0: f32) -> Factors
-    ensures { result ≡ factors_at (type_number kind) k a0 b0 }
+pub fn factors_at(iant: u32, k: Constants, a0: f32, b0: f32) -> Factors
+    ensures { result ≡ factors_at iant k a0 b0 }
 {
-    match kind {
-        AntennaType::Multiband
-        | AntennaType::CentreFed
-        | AntennaType::EndFed
-        | AntennaType::Tropical
-        | AntennaType::Quadrant
-        | AntennaType::CrossedDipoles => mix(stack_of(kind, k, a0), refcof(a0, b0, k.d1, k.e1)),
-        AntennaType::Rhombic => bare_reflection(refcof(a0, b0, k.d1, k.e1)),
-        AntennaType::HorizontalLogPeriodic | AntennaType::VerticalLogPeriodic => no_factors(),
+    match iant {
+        0..=4 | 8 | 9 => mix(stack_of(iant, k, a0), refcof(a0, b0, k.d1, k.e1)),
+        7 => bare_reflection(refcof(a0, b0, k.d1, k.e1)),
+        _ => no_factors(),
     }
 }

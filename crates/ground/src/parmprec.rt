@@ -16,8 +16,8 @@ use model::types::AntennaType;
 
 // Inner step of set-up, the tables by elevation: those of every type but 5 and 6, which leave 0.
 #[tactic(auto, unfolding(crate::specs::Ground::ground_to, floats::specs::Filled::filled_to, crate::specs::Ground::ground_of))]
-pub fn ground_of(kind: AntennaType, k: Constants, t: Trig) -> Ground
-    ensures { result ≡ ground_of (type_number kind) k t }
+pub fn ground_of(iant: u32, k: Constants, t: Trig) -> Ground
+    ensures { result ≡ ground_of iant k t }
 {
     let mut g = Ground {
         w3: [0.0; 91],
@@ -28,7 +28,7 @@ pub fn ground_of(kind: AntennaType, k: Constants, t: Trig) -> Ground
         w10: [0.0; 91],
     };
     for u in 0..91 {
-        let f = elevation::factors::factors_at(kind, k, t.a[u], t.b[u]);
+        let f = elevation::factors::factors_at(iant, k, t.a[u], t.b[u]);
         g.w3[u] = f.w3;
         g.w4[u] = f.w4;
         g.w5[u] = f.w5;

@@ -2,10 +2,7 @@
 // from 1, the shortest.
 ghost use Rattle.std.specs.Prelude.{◌≡◌, ◌<◌, ◌≤◌, replicate};
 ghost use Rattle.floats.specs.Ops.{+0};
-ghost use Rattle.model.specs.Types.{type_number};
 ghost use Rattle.logperiodic.specs.Geometry.{boom, taper, lengths, spacing, along, apex, raised, vertical, horizontal, layout};
-
-use model::types::AntennaType;
 
 // The design: lengths and heights of the longest element, nel, and of the shortest, the distance
 // between them, and the feeder's impedance.
@@ -183,12 +180,13 @@ fn horizontal_layout(d: Design, nel: usize, tau: f32, b: Boom) -> Layout
 
 // Type 5 is horizontal, type 6 vertical.
 #[tactic(auto, unfolding(crate::specs::Geometry::layout))]
-pub(crate) fn layout_of(kind: AntennaType, d: Design, nel: usize, tau: f32, b: Boom) -> Layout
+pub(crate) fn layout_of(iant: u32, d: Design, nel: usize, tau: f32, b: Boom) -> Layout
     requires { (2 ≤ nel) × (nel ≤ 30) }
-    ensures { result ≡ layout (type_number kind) d nel tau b }
+    ensures { result ≡ layout iant d nel tau b }
 {
-    match kind {
-        AntennaType::HorizontalLogPeriodic => horizontal_layout(d, nel, tau, b),
-        _ => vertical_layout(d, nel, tau, b),
+    if iant == 5 {
+        horizontal_layout(d, nel, tau, b)
+    } else {
+        vertical_layout(d, nel, tau, b)
     }
 }

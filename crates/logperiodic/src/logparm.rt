@@ -1,7 +1,6 @@
 // `logparm`: the elements of a log-periodic antenna, types 5 and 6, with their places, currents and
 // phases.
 ghost use Rattle.std.specs.Prelude.{◌≡◌, ◌≤◌};
-ghost use Rattle.model.specs.Types.{type_number};
 ghost use Rattle.logperiodic.specs.Active.{Listed};
 ghost use Rattle.logperiodic.specs.LogPeriodic.{fed, elements, log_parm};
 
@@ -9,7 +8,6 @@ use crate::active::{Active, Feed, active_of, band_of, excited_of, loudest_of, no
 use crate::current::{Band, curcal};
 use crate::geometry::{Boom, Design, Layout, boom_of, layout_of, taper_of};
 use model::record::Elements;
-use model::types::AntennaType;
 
 // The elements, and the boom's direction.
 #[derive(Clone, Copy)]
@@ -55,14 +53,14 @@ fn elements_of(t: Layout, a: Active, f: Feed) -> Elements
 // Inner step of set-up, for the counts of elements that it accepts: the elements of a design of nel
 // elements at the wavelength rlambda, whose phase per metre is beta.
 #[tactic(auto, unfolding(crate::specs::LogPeriodic::log_parm, crate::specs::LogPeriodic::elements))]
-pub fn logparm(kind: AntennaType, nel: usize, d: Design, rlambda: f32, beta: f32) -> LogPeriodic
+pub fn logparm(iant: u32, nel: usize, d: Design, rlambda: f32, beta: f32) -> LogPeriodic
     requires { (2 ≤ nel) × (nel ≤ 30) }
-    ensures value { result ≡ log_parm (type_number kind) nel d rlambda beta }
+    ensures value { result ≡ log_parm iant nel d rlambda beta }
     ensures listed { Listed result.elements.iek result.elements.nat }
 {
     let boom = boom_of(d);
     let tau = taper_of(d, nel);
-    let t = layout_of(kind, d, nel, tau, boom);
+    let t = layout_of(iant, d, nel, tau, boom);
     let s = band_of(d.z0, rlambda, t.sigma, tau);
     let a = active_of(s, t.rl, nel);
     let f = feed_of(a, s, t.rl, beta);
