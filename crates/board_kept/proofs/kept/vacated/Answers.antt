@@ -7,12 +7,11 @@ use borrow.Author.Tests.{eq-eqb, ne_eqb}
 use Rattle.board_kept.specs.Steps.{entry, entry_of, entry_in, renewed}
 use Rattle.board_kept.specs.declared.kept.Entry.{Entry}
 use Rattle.board_air.proofs.Ranks.{shown-none}
-use Rattle.board_kept.proofs.Writing.{written-length, written_none, written-more, written_all}
+use Rattle.board_kept.proofs.Writing.{written_to, written-length, written_none, written-more, written_all}
 use Rattle.board_kept.proofs.Nobody.{nobody-entry}
 use native.Mathlib.Omega.{arith}
 use Rattle.board_kept.proofs.kept.vacated.Invariants.{blank}
 use Rattle.board_kept.proofs.kept.vacated.Goals as goal
-use Rattle.board_kept.proofs.kept.vacated.Goals.{then-was-gone, else-was-gone}
 
 -- where the one gone was shown, and elsewhere
 gone-there : (kept : List ℕ) (gone v : ℕ) → v < 360 → get_or kept (360 + v) 0 ≡ gone → entry 0xC1F00000 0 ≡ renewed gone [] kept v
@@ -20,6 +19,11 @@ gone-there kept gone v low same = rw (eq-eqb (get_or kept (360 + v) 0) gone same
 
 another-there : (kept : List ℕ) (gone v : ℕ) → (get_or kept (360 + v) 0 ≡ gone → ⊥) → entry_in kept v ≡ renewed gone [] kept v
 another-there kept gone v differ = rw (ne_eqb (get_or kept (360 + v) 0) gone differ)
+
+-- one azimuth more, whichever entry it gets
+one-written : (f : ℕ → Entry) {l m : List ℕ} {v : ℕ} {e : Entry} → l ≡ written_to f blank v → v < 360 → m ≡ set (set l v e.bits) (360 + v) e.id → e ≡ f v → m ≡ written_to f blank (v + 1)
+one-written f {l} {m} {v} {e} before low after here =
+    after ∙ ap (λ (k : List ℕ). set (set k v e.bits) (360 + v) e.id) before ∙ written-more f blank refl v low here
 
 pub loop-v-init : goal.loop-v-init
 loop-v-init c =
@@ -44,20 +48,10 @@ put_entry-requires c =
 pub loop-v-preserved : goal.loop-v-preserved
 loop-v-preserved c =
     let a = c.args in
-    let head = c.loop-v in
-    let kept = a.kept.now in
-    let f = renewed a.gone [] kept in
+    let f = renewed a.gone [] a.kept.now in
     let was = c.entry_in-was.ensures in
     let id = ap (λ (e : Entry). e.id) was in
-    let rest = c.if-was-gone in
-    let here : rest.rest ≡ f head.v =
-    elim rest.branch [
-      | then-was-gone w ↦ w.rest-is ∙ w.nobody-rest.ensures ∙ gone-there kept a.gone head.v (omega arith) (sym id ∙ w.if-was-gone.true)
-      | else-was-gone w ↦ w.rest-is ∙ was ∙ another-there kept a.gone head.v (λ e. w.if-was-gone.false (id ∙ e))
-    ] in
-    c.put_entry.ensures
-    ∙ ap (λ (l : List ℕ). set (set l head.v rest.rest.bits) (360 + head.v) rest.rest.id) head.invariant
-    ∙ written-more f blank refl head.v (omega arith) here
+    one-written f c.loop-v.invariant (omega arith) c.put_entry.ensures (grind (arith, was, id, gone-there, another-there))
 
 pub returns : goal.returns
 returns c =
