@@ -3,10 +3,10 @@ ghost use Rattle.std.specs.Prelude.{◌≡◌};
 ghost use Rattle.lines.specs.Words.{words_of};
 ghost use Rattle.card.specs.Card as Card;
 ghost use Rattle.card.specs.Inner.{IsLine, found};
-ghost use Rattle.card.specs.Mistakes.{word_fault, is_bad, first_bad, field_fault, mistake_in, is_wrong, first_mistake, type_mistake, is_missing, first_missing, missing_field, card_mistake};
+ghost use Rattle.card.specs.Mistakes.{word_fault, first_bad, field_fault, mistake_in, first_mistake, type_mistake, is_missing, first_missing, missing_field, card_mistake};
 
 use crate::kind::is_curtain;
-use crate::line::{Line, field_in, find, line_for, line_of, number_count, word_at};
+use crate::line::{Line, field_in, line_for, line_of, number_count, word_at};
 use crate::mistakes::{Fault, Mistake};
 use decimal::{NotRead, read};
 use fields::Kind;
@@ -14,7 +14,7 @@ use fields::first::least;
 use fields::limits::{refusal_of, takes};
 use fields::names::{FIELDS, TYPE};
 use fields::table::{count_of, has_field};
-use lines::word_count;
+use lines::{line_end, text_start, word_count};
 
 // What is wrong with a word as number k of field f.
 #[tactic(auto, unfolding(crate::specs::Mistakes::word_fault, crate::specs::Mistakes::read_fault))]
@@ -39,17 +39,14 @@ fn number_fault(kind: Kind, f: usize, k: usize, line: &[u8]) -> Option<Fault>
     word_fault(kind, f, k, word_at(line, k))
 }
 
-fn is_bad(kind: Kind, line: &[u8], k: usize) -> bool
-    ensures { result ≡ is_bad kind (words_of line.now) k }
-{
-    number_fault(kind, field_in(line), k, line).is_some()
-}
-
 // The first of a line's numbers with something wrong.
 fn first_bad(kind: Kind, line: &[u8]) -> Option<usize>
     ensures { result ≡ found (first_bad kind (words_of line.now)) }
 {
-    let k = least(number_count(line), |k| is_bad(kind, line, k));
+    let f = field_in(line);
+    let k = least(number_count(line), |k| {
+        number_fault(kind, f, k, line).is_some()
+    });
     if k == 0 { None } else { Some(k) }
 }
 
@@ -110,19 +107,25 @@ fn mistake_in(text: &[u8], kind: Kind, line: Line<'_>) -> Option<Mistake>
     })
 }
 
-fn is_wrong(text: &[u8], kind: Kind, line: Line<'_>) -> bool
-    requires { IsLine text.now line.number line }
-    ensures { result ≡ is_wrong kind (Card.card_of text.now) line.entry.number }
-{
-    mistake_in(text, kind, line).is_some()
-}
-
-// The mistake of the first line that has one.
+// The mistake of the first line that has one; a walk of its own, as it keeps the mistake that it finds.
 fn first_mistake(text: &[u8], kind: Kind) -> Option<Mistake>
     ensures { result ≡ first_mistake kind (Card.card_of text.now) }
 {
-    let line = find(text, |line| is_wrong(text, kind, line))?;
-    mistake_in(text, kind, line)
+    let mut number: usize = 0;
+    let mut at = text_start(text);
+    while at <= text.len() {
+        let to = line_end(text, at);
+        number += 1;
+        let line = Line {
+            number,
+            words: &text[at..to],
+        };
+        if let Some(mistake) = mistake_in(text, kind, line) {
+            return Some(mistake);
+        }
+        at = to + 1;
+    }
+    None
 }
 
 // The mistake of the first `type` line.
