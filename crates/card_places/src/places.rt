@@ -10,6 +10,9 @@ use card::line::{find, number_count};
 fn line_at(text: &[u8], n: usize) -> &[u8]
     ensures { words_of result.now ≡ Card.line_at (Card.card_of text.now) n }
 {
+    if n == 0 {
+        return &[];
+    }
     match find(text, |line| line.number == n) {
         Some(line) => line.words,
         None => &[],

@@ -10,6 +10,10 @@ use Rattle.card.proofs.Walk.{first_line}
 use Rattle.card_places.proofs.Numbered.{numbered}
 use Rattle.card_places.proofs.places.line_at.Goals as goal
 
+pub returns-then-n-eq0 : goal.returns-then-n-eq0
+unfolding line_at
+returns-then-n-eq0 c = rw c.if-n-eq0.true no_words
+
 pub returns-in-Some : goal.returns-in-Some
 unfolding IsFound
 returns-in-Some c =
