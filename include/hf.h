@@ -3,8 +3,8 @@
  *
  * Every call is total. What is lent (a pointer, then the number of its elements) must be readable, and writable where it isn't
  * const; two lent pieces of one call must not overlap. That is all that a caller owes. A call keeps no state and no pointer, so
- * threads may call at once. hf_svg_two takes up to 210 kB of the stack, hf_planet, hf_dbi, hf_svg and hf_compare 200, hf_gains and
- * hf_plate 190, hf_setup 130, the others under 32 (measured on x86-64).
+ * threads may call at once. hf_svg_two takes up to 330 kB of the stack, hf_svg 300, hf_dbi and hf_compare 260, hf_planet and hf_plate
+ * 240, hf_gains 220, hf_setup 170, the others under 32 (measured on x86-64).
  *
  * A refusal leaves all that is lent as it was. "bits" are a 32-bit float's; a NaN is 7FC00000.
  *
