@@ -62,12 +62,15 @@ pub fn renew(kept: &mut [u32], air: &[u32], gone: u32)
 }
 
 // What is kept, over the lent numbers and ids.
-// Inner step: of `board::show`, past its refusals.
+// Inner step: of `board::show`, past its refusals. The ids go one by one: with `copy_from_slice`
+// the archive for C needs memmove from outside.
 pub fn put_kept(kept: &[u32], numbers: &mut [f32], ids: &mut [u32])
     requires { (length kept.now ≡ 720) × (length numbers.old ≡ 360) × (length ids.old ≡ 360) }
     ensures numbers_after { numbers.new ≡ up_to (λ v. of_bits binary32 (get_or kept.now v 0)) 360 }
     ensures ids_after { ids.new ≡ up_to (λ v. get_or kept.now (360 + v) 0) 360 }
 {
     read_bits(kept, 0, numbers);
-    ids.copy_from_slice(&kept[360..]);
+    for v in 0..360 {
+        ids[v] = kept[360 + v];
+    }
 }

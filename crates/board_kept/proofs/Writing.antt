@@ -24,6 +24,10 @@ module _ {A : Type 0} (f : ℕ → A) where
   up_to-length zero = refl
   up_to-length (suc n) = length-append (up_to f n) (f n ∷ []) ∙ omega (arith, up_to-length n)
 
+  pub up_to-none : (l : List A) → l ≡ up_to f 0 ++ drop 0 l
+  unfolding up_to
+  up_to-none l = refl
+
   pub up_to-more : {x : A} (l : List A) (n : ℕ) → n < length l → x ≡ f n → set (up_to f n ++ drop n l) n x ≡ up_to f (n + 1) ++ drop (n + 1) l
   unfolding up_to
   up_to-more l n h e =
