@@ -64,6 +64,10 @@ broken iant n s x =
     (cond (eqb n COUNT) (count_broken iant s x)
     (cond (eqb n AIM) (aim_broken iant s x) false))))
 
+-- the same where slot 1 is no type, but for the limits after the second, which then aren't told
+unfoldable pub broken_untyped : ℕ → ℕ → Float → Bool
+broken_untyped n s x = cond (eqb n VALUE) (not (finite x)) (cond (eqb n TYPE) (eqb s 1) false)
+
 -- slot s of p breaks limit n
 unfoldable pub breaks : List Float → ℕ → ℕ → Bool
 breaks p n s = broken (jant_of (slot p 1)) n s (slot p s)
